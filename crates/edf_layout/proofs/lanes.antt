@@ -2,6 +2,7 @@ pub mod PlainLaneFacts
 pub mod PlaceFacts
 pub mod LaneReadFacts
 pub mod LayLaneFacts
+pub mod BareLaneFacts
 pub mod OddRowFacts
 pub mod KeptLayoutFacts
 pub mod PlainBodyFacts

@@ -1,7 +1,7 @@
 pub mod GatheredFacts
 pub mod RisingFacts
-pub mod LaneFacts
 pub mod BodyFacts
+pub mod KeptFacts
 pub mod StopFacts
 pub mod HeadFacts
 pub mod CutFacts

@@ -1,3 +1,4 @@
+pub mod KeptLanes
 pub mod FileBodies
 pub mod LaneRows
 pub mod LayoutTexts

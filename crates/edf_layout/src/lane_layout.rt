@@ -87,7 +87,7 @@ fn is_plain_duration(text: &[u8]) -> bool
 }
 
 /// How the first TAL of a lane is spelled.
-fn spelling_at(lane: &[u8]) -> Spelling<'_>
+pub(crate) fn spelling_at(lane: &[u8]) -> Spelling<'_>
     ensures { spelling_view result ≡ layout_at lane.entry.now }
 {
     let head = until(lane, 20);

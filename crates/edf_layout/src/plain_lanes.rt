@@ -4,6 +4,7 @@ ghost use Rattle.std.specs.Prelude.{◌≡◌, ◌≤◌, ◌<◌, ◌+◌, ◌*
 ghost use Rattle.std.specs.List.{flat_map};
 ghost use Rattle.edf_stream.specs.Views.{note_value};
 ghost use Rattle.edf_stream.specs.annotation.Notes.{NoteValue};
+ghost use Rattle.edf_layout.specs.declared.plain_lanes.PlainTal.TheVariants as tals;
 ghost use Rattle.edf_layout.specs.body.PlainLanes.{order_view, plain_view, lane_view, room_from as room_from_place, is_known_full, AreUnknown, AreFull, IsFirstRoom, AreRising};
 ghost use Rattle.edf_layout.specs.body.PlainOrders.{bare_lane, bare_record, filled, put_from as put_from_place, record_for as record_in, record_of_onset as record_of, tal_bytes, tal_of_start, with_tal};
 
@@ -35,8 +36,10 @@ pub enum PlainTal {
 pub struct PlainLane {
     /// How many bytes are free behind its TALs.
     pub free: usize,
-    /// Its TALs.
-    pub tals: Vec<PlainTal>,
+    /// Where its data record starts, if its first TAL keeps the time: in picoseconds after the start of the file.
+    pub start: Option<i128>,
+    /// The annotations that its other TALs have, one each: their numbers among all in order.
+    pub notes: Vec<usize>,
 }
 
 /// How many lanes stand in a block, for which it is noted that none of them has so many bytes free.
@@ -114,20 +117,20 @@ fn room_from(
     if before < at { Some(before) } else { None }
 }
 
-/// Puts a TAL that takes so many bytes into the first lane from a place on that has room for it, and behind the last
-/// lane from the first one on; nowhere, where no lane has room.
+/// Puts the annotation of this number, whose TAL takes so many bytes, into the first lane from a place on that has room
+/// for it, and behind the last lane from the first one on; nowhere, where no lane has room.
 fn put_from(
     lanes: &mut [PlainLane],
     full: &mut [Option<usize>],
     at: usize,
     need: usize,
-    tal: PlainTal,
+    number: usize,
 ) -> Result<(), AllocError>
     requires within { at ≤ length lanes.old }
     requires full { AreFull lanes.old full.old }
-    ensures filled { OnOk result ((notes : List NoteValue) → tal_bytes (plain_view notes tal) ≡ need →
-        map (lane_view notes) lanes.new ≡
-        put_from_place at (plain_view notes tal) (map (lane_view notes) lanes.old)) }
+    ensures filled { OnOk result ((notes : List NoteValue) →
+        tal_bytes (plain_view notes (tals.Annotates number)) ≡ need → map (lane_view notes) lanes.new ≡
+        put_from_place at (plain_view notes (tals.Annotates number)) (map (lane_view notes) lanes.old)) }
     ensures size { length lanes.new ≡ length lanes.old }
     ensures full { OnOk result (AreFull lanes.new full.new) }
     ensures long { length full.new ≡ length full.old }
@@ -135,7 +138,7 @@ fn put_from(
     if let Some(place) = room_from(lanes, full, at, need) {
         let lane = &mut lanes[place];
         lane.free = lane.free.saturating_sub(need);
-        lane.tals.push(tal)?;
+        lane.notes.push(number)?;
     }
     Ok(())
 }
@@ -145,12 +148,11 @@ fn timed_lane(alloc: Global, size: usize, start: i128) -> Result<PlainLane, Allo
     ensures { IfOk result (λ lane. (notes : List NoteValue) →
         lane_view notes lane ≡ with_tal (tal_of_start start) (bare_lane size)) }
 {
-    // most lanes get no other
-    let mut tals = Vec::with_capacity(alloc, 1)?;
-    tals.push(PlainTal::KeepsTime(start))?;
     Ok(PlainLane {
         free: size.saturating_sub(start_bytes(alloc, start)?),
-        tals,
+        start: Some(start),
+        // most lanes get no annotation, and take no memory of their own
+        notes: Vec::new(alloc),
     })
 }
 
@@ -162,7 +164,8 @@ fn push_empty(lanes: &mut Vec<PlainLane>, alloc: Global, sizes: &[usize]) -> Res
     for size in sizes {
         lanes.push(PlainLane {
             free: *size,
-            tals: Vec::new(alloc),
+            start: None,
+            notes: Vec::new(alloc),
         })?;
     }
     Ok(())
@@ -245,7 +248,7 @@ pub fn filled_lanes(
         let note = laid(note);
         let at = sizes.len() * record_for(order, starts, number, note.onset);
         let need = note_bytes(alloc, note)?;
-        put_from(&mut lanes, &mut full, at, need, PlainTal::Annotates(number))?;
+        put_from(&mut lanes, &mut full, at, need, number)?;
     }
     Ok(lanes)
 }

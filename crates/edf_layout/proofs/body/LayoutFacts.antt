@@ -100,7 +100,7 @@ tal-layout bytes tal one two h k =
     ap (λ o. make o one.duration) onset ∙ ap (make two.onset) duration
 
 -- a lane has one layout
-lane-layout : (lane : List ℕ) (tals : List TalValue) (ones twos : List TalLayout) → IsLaidLane lane tals ones → IsLaidLane lane tals twos → ones ≡ twos
+pub lane-layout : (lane : List ℕ) (tals : List TalValue) (ones twos : List TalLayout) → IsLaidLane lane tals ones → IsLaidLane lane tals twos → ones ≡ twos
 lane-layout lane [] [] [] h k = refl
 lane-layout lane [] [] (two ∷ twos) h k = absurd k
 lane-layout lane [] (one ∷ ones) twos h k = absurd h
@@ -113,7 +113,7 @@ lane-layout lane (tal ∷ tals) (one ∷ ones) (two ∷ twos) (bytes, rest, is, 
     ap (λ (x : TalLayout). x ∷ ones) first ∙ ap (λ xs. two ∷ xs) next
 
 -- and lanes have one list of TALs each
-items-tell : (tals others : List TalValue) (items : List Item) → items ≡ map Ok tals → items ≡ map Ok others → tals ≡ others
+pub items-tell : (tals others : List TalValue) (items : List Item) → items ≡ map Ok tals → items ≡ map Ok others → tals ≡ others
 items-tell tals others items e f = told tals others (sym e ∙ f)
   where
     told : (tals others : List TalValue) → map {B = Item} Ok tals ≡ map Ok others → tals ≡ others

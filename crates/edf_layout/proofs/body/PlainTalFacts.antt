@@ -294,7 +294,7 @@ duration-spelled (Some (negsuc n)) h = absurd (let low = h.0 in omega (arith, in
 unless : (b : Bool) (t : List ℕ) → b ≡ true → None ≡ unless_plain b t
 unless b t e = sym (ap (λ c. unless_plain c t) e)
 
-tal-spelled : (tal : TalValue) → CanStand tal → IsLaidTal (plain_tal tal) tal (record { onset = None; duration = None })
+pub tal-spelled : (tal : TalValue) → CanStand tal → IsLaidTal (plain_tal tal) tal (record { onset = None; duration = None })
 tal-spelled tal can =
     let onset = onset-spelled tal.onset can.onset in
     let duration = duration-spelled tal.duration can.duration in

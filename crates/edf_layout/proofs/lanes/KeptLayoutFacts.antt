@@ -24,6 +24,7 @@ use Rattle.edf_layout.specs.HeadLayouts.{layout_in, head_layout_of}
 use Rattle.edf_layout.specs.body.BodyLayouts.{KeepsTime, Annotates, RecordLayout, BodyLayout, AreLaidLanes, spellings_in, contents_in, content_with, content_of, timekeeping_of, lane_contents, first_contents, record_contents, HasBodyLayout}
 use Rattle.edf_layout.specs.body.FileLayouts.{FileLayout, HasLayout, layout_text}
 use Rattle.edf_layout.specs.body.NoteOrders.{place_of}
+use Rattle.edf_layout.specs.body.PlainOrders.{lane_sizes}
 use Rattle.edf_layout.specs.declared.whole.file_body.FileBody.{FileBody}
 use Rattle.edf_layout.specs.whole.FileBodies.{IsSoundBody, IsBody, IsFile, lanes_kept, notes_kept}
 use Rattle.edf_layout.specs.whole.LaneRows.{HasLaneLayout, HaveLaneLayouts, HaveRowLayouts}
@@ -117,9 +118,9 @@ rows-laid notes [] (b ∷ bs) long each = absurd (omega arith)
 rows-laid notes (r ∷ rs) [] long each = absurd (omega arith)
 rows-laid notes (r ∷ rs) (b ∷ bs) long each = (each 0 r b refl refl, rows-laid notes rs bs (omega arith) (λ k lanes one e f. each (suc k) lanes one e f))
 
-body-laid : (file : List ℕ) (h : Head) (body : FileBody) (layout : BodyLayout) → IsBody file h body → HasBodyLayout file h layout → HaveRowLayouts (notes_kept body) (lanes_kept body) layout
+body-laid : (file : List ℕ) (h : Head) (body : FileBody) (layout : BodyLayout) → IsBody file h body → HasBodyLayout file h layout → HaveRowLayouts (notes_kept body) (lanes_kept (lane_sizes h) body) layout
 body-laid file h body layout b has =
-    rows-laid (notes_kept body) (lanes_kept body) layout ((b.has_lanes).count ∙ sym has.count) (λ k lanes one e f.
+    rows-laid (notes_kept body) (lanes_kept (lane_sizes h) body) layout ((b.has_lanes).count ∙ sym has.count) (λ k lanes one e f.
     let r = has.records k one f in
     let same : has.notes ≡ b.notes = one-notes file h b.conforms has.notes b.notes has.has_notes b.has_notes in
     let said : contents_in one ≡ record_contents (notes_kept body) r.talss =
@@ -130,7 +131,7 @@ body-laid file h body layout b has =
 -- ---- the layout of the file
 
 pub file-laid : (file front columns : List ℕ) (h : Head) (body : FileBody) (text : List ℕ) (outcome : Outcome) → IsSoundBody body → IsFile file front columns h body
-    → ((layout : BodyLayout) → HaveRowLayouts (notes_kept body) (lanes_kept body) layout → IsTextOf (layout_kept front columns h body layout) h text outcome)
+    → ((layout : BodyLayout) → HaveRowLayouts (notes_kept body) (lanes_kept (lane_sizes h) body) layout → IsTextOf (layout_kept front columns h body layout) h text outcome)
     → IsLayoutText file text outcome
 unfolding head_layout_of layout_kept layout_made
 file-laid file front columns h body text outcome sound is said =

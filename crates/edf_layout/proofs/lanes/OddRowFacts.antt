@@ -1,11 +1,11 @@
 -- The lanes of a plain order are laid out, and compared one by one with those of a file.
-use Rattle.std.proofs.Common.{◌≡◌, ℕ, ℤ, Bool, true, false, cond, zero, suc, ◌==◌, ◌+◌, ◌-◌, ◌<◌, List, [], ◌∷◌, ◌++◌, length, get_or, take, drop, map, min, arith, refl, ap, ◌∙◌, sym, subst, append_assoc}
+use Rattle.std.proofs.Common.{◌≡◌, ℕ, ℤ, Bool, true, false, cond, zero, suc, ◌==◌, ◌+◌, ◌-◌, ◌<◌, ◌≤◌, List, [], ◌∷◌, ◌++◌, length, get_or, take, drop, map, min, arith, refl, ap, ◌∙◌, sym, subst, append_assoc}
 use Rattle.std.specs.List.{flat_map}
 use Rattle.std.specs.Str.{bytes_eq}
 use Rattle.std.proofs.Math.Seq.{drop-nil, drop-cons}
 use Rattle.std.proofs.lemmas.Bool.Decides.{nat_tests}
 use Rattle.std.proofs.lemmas.Slice.Eq.{bytes_eq-Decides}
-use Rattle.std.proofs.lemmas.List.{append-nil, take-map, drop-map, drop-drop, take_min, drop_min}
+use Rattle.std.proofs.lemmas.List.{append-nil, drop_all, take-map, drop-map, drop-drop, take_min, drop_min}
 use Rattle.edf_tal.specs.Tals.{TalValue}
 use Rattle.edf_stream.specs.annotation.Notes.{NoteValue}
 use Rattle.edf_layout.specs.body.BodyLayouts.{PlacedTal, RecordLayout, BodyLayout, content_of, timekeeping_of, lane_contents}
@@ -151,20 +151,24 @@ one-lane-less notes k j lane lanes plain odd after whole put l = goes l.rest l.l
         dropped : (j : ℕ) (xs : RecordLayout) → drop (j + 1) xs ≡ drop 1 (drop j xs)
         dropped j xs = sym (drop-drop 1 j xs)
 
--- the same by lanes and plain lanes as the code holds them
-pub lanes-step : {X : Type 0} (items : X → List ℕ) (notes : List NoteValue) (k j : ℕ) (held : List X) (lane : X) (bytes : List ℕ) (plain : List PlainLane) (standing : List PlainTal)
-    (odd after whole : List OddLane) → j < length held → lane ≡ get_or held j lane → bytes ≡ items lane → standing ≡ tals_at plain j
-    → ((laid : List PlacedTal) → HasLaneLayout notes (j == 0) bytes laid
+-- the same by the plain lanes as the code holds them
+pub lanes-step : (notes : List NoteValue) (k j : ℕ) (lanes : List (List ℕ)) (lane : List ℕ) (plain : List PlainLane) (standing : List PlainTal)
+    (odd after whole : List OddLane) → j < length lanes → lane ≡ get_or lanes j lane → standing ≡ tals_at plain j
+    → ((laid : List PlacedTal) → HasLaneLayout notes (j == 0) lane laid
     → after ≡ odd ++ odd_lane k j laid (plainly_laid notes (j == 0) (map (plain_view notes) standing)))
-    → LanesLeft notes k j (map items (drop j held)) (drop j (plain_record notes (map (plain_tals notes) plain))) odd whole
-    → LanesLeft notes k (j + 1) (map items (drop (j + 1) held)) (drop (j + 1) (plain_record notes (map (plain_tals notes) plain))) after whole
-lanes-step items notes k j held lane bytes plain standing odd after whole low is told there put l =
+    → LanesLeft notes k j (drop j lanes) (drop j (plain_record notes (map (plain_tals notes) plain))) odd whole
+    → LanesLeft notes k (j + 1) (drop (j + 1) lanes) (drop (j + 1) (plain_record notes (map (plain_tals notes) plain))) after whole
+lanes-step notes k j lanes lane plain standing odd after whole low is there put l =
     let less : suc j ≡ j + 1 = omega arith in
-    let cut : drop j held ≡ lane ∷ drop (j + 1) held =
-    drop-cons held j lane low ∙ ap (λ z. z ∷ drop (suc j) held) (sym is) ∙ ap (λ n. lane ∷ drop n held) less in
-    one-lane-less notes k j (items lane) (map items (drop (j + 1) held)) plain odd after whole
-    (λ laid h. put laid (subst (λ b. HasLaneLayout notes (j == 0) b laid) (sym told) h) ∙ ap (λ ts. odd ++ odd_lane k j laid (plainly_laid notes (j == 0) (map (plain_view notes) ts))) there)
-    (subst (λ ls. LanesLeft notes k j (map items ls) (drop j (plain_record notes (map (plain_tals notes) plain))) odd whole) cut l)
+    let cut : drop j lanes ≡ lane ∷ drop (j + 1) lanes =
+    drop-cons lanes j lane low ∙ ap (λ z. z ∷ drop (suc j) lanes) (sym is) ∙ ap (λ n. lane ∷ drop n lanes) less in
+    one-lane-less notes k j lane (drop (j + 1) lanes) plain odd after whole
+    (λ laid h. put laid h ∙ ap (λ ts. odd ++ odd_lane k j laid (plainly_laid notes (j == 0) (map (plain_view notes) ts))) there)
+    (subst (λ ls. LanesLeft notes k j ls (drop j (plain_record notes (map (plain_tals notes) plain))) odd whole) cut l)
+
+pub all-lanes : (notes : List NoteValue) (k j : ℕ) (lanes : List (List ℕ)) (plains : RecordLayout) (odd whole : List OddLane)
+    → length lanes ≤ j → LanesLeft notes k j (drop j lanes) plains odd whole → odd ≡ whole
+all-lanes notes k j lanes plains odd whole end l = no-lane-left notes k j plains odd whole (subst (λ ls. LanesLeft notes k j ls plains odd whole) (drop_all j lanes end) l)
 
 -- ---- the data records of a file
 
@@ -226,25 +230,24 @@ one-row-less notes k width n lanes rows here plain odd after whole is put l = go
               ∙ e;
         }
 
--- the same by data records and plain lanes as the code holds them
-pub rows-step : {X : Type 0} (items : X → List (List ℕ)) (notes : List NoteValue) (k width count mid : ℕ) (held : List X) (row : X) (lanes : List (List ℕ)) (rest here behind : List PlainLane)
-    (odd after whole : List OddLane) → k < length held → length held ≡ count → row ≡ get_or held k row → lanes ≡ items row
+-- the same by the plain lanes as the code holds them
+pub rows-step : (notes : List NoteValue) (k width count mid : ℕ) (rows : List (List (List ℕ))) (lanes : List (List ℕ)) (rest here behind : List PlainLane)
+    (odd after whole : List OddLane) → k < length rows → length rows ≡ count → lanes ≡ get_or rows k lanes
     → mid ≡ min width (length rest) → here ≡ take mid rest → behind ≡ drop mid rest
     → ((layout : RecordLayout) → HaveLaneLayouts notes 0 lanes layout → after ≡ odd ++ odd_in k 0 layout (plain_record notes (map (plain_tals notes) here)))
-    → RowsLeft notes k (map items (drop k held)) (plains_of notes width (count - k) rest) odd whole
-    → RowsLeft notes (k + 1) (map items (drop (k + 1) held)) (plains_of notes width (count - (k + 1)) behind) after whole
-rows-step items notes k width count mid held row lanes rest here behind odd after whole low long is told middle front back put l =
+    → RowsLeft notes k (drop k rows) (plains_of notes width (count - k) rest) odd whole
+    → RowsLeft notes (k + 1) (drop (k + 1) rows) (plains_of notes width (count - (k + 1)) behind) after whole
+rows-step notes k width count mid rows lanes rest here behind odd after whole low long is middle front back put l =
     let less : suc k ≡ k + 1 = omega arith in
-    let cut : drop k held ≡ row ∷ drop (k + 1) held =
-    drop-cons held k row low ∙ ap (λ z. z ∷ drop (suc k) held) (sym is) ∙ ap (λ n. row ∷ drop n held) less in
+    let cut : drop k rows ≡ lanes ∷ drop (k + 1) rows =
+    drop-cons rows k lanes low ∙ ap (λ z. z ∷ drop (suc k) rows) (sym is) ∙ ap (λ n. lanes ∷ drop n rows) less in
     let left : count - k ≡ suc (count - (k + 1)) = omega (arith, low, long) in
     let taken : here ≡ take width rest = front ∙ ap (λ n. take n rest) middle ∙ take_min width rest in
     let dropped : behind ≡ drop width rest = back ∙ ap (λ n. drop n rest) middle ∙ drop_min width rest in
-    subst (λ ps. RowsLeft notes (k + 1) (map items (drop (k + 1) held)) (plains_of notes width (count - (k + 1)) ps) after whole) (sym dropped)
-    (one-row-less notes k width (count - (k + 1)) (items row) (map items (drop (k + 1) held)) here rest odd after whole taken
-    (λ layout h. put layout (subst (λ ls. HaveLaneLayouts notes 0 ls layout) (sym told) h))
-    (subst (λ n. RowsLeft notes k (items row ∷ map items (drop (k + 1) held)) (plains_of notes width n rest) odd whole) left
-    (subst (λ rs. RowsLeft notes k (map items rs) (plains_of notes width (count - k) rest) odd whole) cut l)))
+    subst (λ ps. RowsLeft notes (k + 1) (drop (k + 1) rows) (plains_of notes width (count - (k + 1)) ps) after whole) (sym dropped)
+    (one-row-less notes k width (count - (k + 1)) lanes (drop (k + 1) rows) here rest odd after whole taken put
+    (subst (λ n. RowsLeft notes k (lanes ∷ drop (k + 1) rows) (plains_of notes width n rest) odd whole) left
+    (subst (λ rs. RowsLeft notes k rs (plains_of notes width (count - k) rest) odd whole) cut l)))
 
 -- before the first data record
 pub rows-begun : (order : PlainOrder) (notes : List NoteValue) (sizes : List ℕ) (starts : List ℤ) (plain : List PlainLane) (rows : List (List (List ℕ))) (layout : BodyLayout)
@@ -261,19 +264,19 @@ rows-begun order notes sizes starts plain rows layout is h =
     }
 
 -- where there is no data record
-pub no-rows : {X : Type 0} (items : X → List (List ℕ)) (order : PlainOrder) (notes : List NoteValue) (sizes : List ℕ) (starts : List ℤ) (count : ℕ) (held : List X) (layout : BodyLayout)
-    → (count == 0) ≡ true → length held ≡ count → HaveRowLayouts notes (map items held) layout → [] ≡ odd_lanes order notes sizes starts layout
+pub no-rows : (order : PlainOrder) (notes : List NoteValue) (sizes : List ℕ) (starts : List ℤ) (count : ℕ) (rows : List (List (List ℕ))) (layout : BodyLayout)
+    → (count == 0) ≡ true → length rows ≡ count → HaveRowLayouts notes rows layout → [] ≡ odd_lanes order notes sizes starts layout
 unfolding odd_lanes
-no-rows {X} items order notes sizes starts count held layout none long h = cases held layout (long ∙ nought count none) h
+no-rows order notes sizes starts count rows layout none long h = cases rows layout (long ∙ nought count none) h
   where
     nought : (n : ℕ) → (n == 0) ≡ true → n ≡ 0
     nought n e = grind (arith, nat_tests)
 
-    cases : (held : List X) (layout : BodyLayout) → length held ≡ 0 → HaveRowLayouts notes (map items held) layout → [] ≡ odd_lanes order notes sizes starts layout
+    cases : (rows : List (List (List ℕ))) (layout : BodyLayout) → length rows ≡ 0 → HaveRowLayouts notes rows layout → [] ≡ odd_lanes order notes sizes starts layout
     cases [] [] e h = refl
     cases [] (l ∷ ls) e h = absurd h
     cases (x ∷ xs) layout e h = absurd (omega (arith, e))
 
-pub all-rows : {X : Type 0} (items : X → List (List ℕ)) (notes : List NoteValue) (k : ℕ) (held : List X) (plains : BodyLayout) (odd whole : List OddLane)
-    → drop k held ≡ [] → RowsLeft notes k (map items (drop k held)) plains odd whole → odd ≡ whole
-all-rows items notes k held plains odd whole none l = no-row-left notes k plains odd whole (subst (λ rs. RowsLeft notes k (map items rs) plains odd whole) none l)
+pub all-rows : (notes : List NoteValue) (k : ℕ) (rows : List (List (List ℕ))) (plains : BodyLayout) (odd whole : List OddLane)
+    → length rows ≤ k → RowsLeft notes k (drop k rows) plains odd whole → odd ≡ whole
+all-rows notes k rows plains odd whole end l = no-row-left notes k plains odd whole (subst (λ rs. RowsLeft notes k rs plains odd whole) (drop_all k rows end) l)

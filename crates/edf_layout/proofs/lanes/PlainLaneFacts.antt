@@ -13,7 +13,7 @@ use Rattle.edf_stream.specs.Views.{note_value}
 use Rattle.edf_stream.specs.annotation.Notes.{NoteValue}
 use Rattle.edf_stream.specs.declared.annotation.notes.Note.{Note}
 use Rattle.edf_tal.specs.Tals.{TalValue}
-use Rattle.edf_layout.specs.body.PlainLanes.{plain_view, lane_view, room_in, room_from}
+use Rattle.edf_layout.specs.body.PlainLanes.{plain_view, time_in, tals_in, lane_view, room_in, room_from}
 use Rattle.edf_layout.specs.body.PlainOrders.{FilledLane, PlainOrder, bare_lane, bare_record, filled, last_digits, record_for, tal_bytes, tal_of_note, tal_of_start, with_tal, put_first, put_from}
 use Rattle.edf_layout.specs.declared.plain_lanes.PlainLane.{PlainLane}
 use Rattle.edf_layout.specs.declared.plain_lanes.PlainTal.{PlainTal}
@@ -143,20 +143,28 @@ put-none notes lanes at need tal low found is =
     ∙ ap (λ o. option_map_or (with-at (plain_view notes tal) (map (lane_view notes) lanes)) o (map (lane_view notes) lanes)) (found-mapped notes lanes at need (plain_view notes tal) is ∙ sym found))
 
 -- and where one has
-pub put-some : (notes : List NoteValue) (lanes : List PlainLane) (at need place : ℕ) (tal : PlainTal) (d after : PlainLane) → at ≤ length lanes → Some place ≡ room_from lanes at need
-    → place < length lanes → after.free ≡ (get_or lanes place d).free - need → after.tals.items ≡ (get_or lanes place d).tals.items ++ tal ∷ []
-    → tal_bytes (plain_view notes tal) ≡ need → map (lane_view notes) (set lanes place after) ≡ put_from at (plain_view notes tal) (map (lane_view notes) lanes)
+pub put-some : (notes : List NoteValue) (lanes : List PlainLane) (at need place number : ℕ) (d after : PlainLane) → at ≤ length lanes → Some place ≡ room_from lanes at need
+    → place < length lanes → after.free ≡ (get_or lanes place d).free - need → after.start ≡ (get_or lanes place d).start → after.notes.items ≡ (get_or lanes place d).notes.items ++ number ∷ []
+    → tal_bytes (plain_view notes (tals.Annotates number)) ≡ need
+    → map (lane_view notes) (set lanes place after) ≡ put_from at (plain_view notes (tals.Annotates number)) (map (lane_view notes) lanes)
 unfolding with-at
-put-some notes lanes at need place tal d after low found within free tals is =
+put-some notes lanes at need place number d after low found within free start more is =
+    let tal : PlainTal = tals.Annotates number in
+    let had : PlainLane = get_or lanes place d in
+    let timed : List PlainTal = time_in had.start in
+    let told : tals_in after ≡ tals_in had ++ tal ∷ [] =
+    ap (λ (s : Option ℤ). time_in s ++ map tals.Annotates after.notes.items) start
+    ∙ ap (λ xs. timed ++ map tals.Annotates xs) more ∙ ap (λ xs. timed ++ xs) (map-append tals.Annotates had.notes.items (number ∷ []))
+    ∙ sym (append_assoc timed (map tals.Annotates had.notes.items) (tal ∷ [])) in
     let view : PlainLane → FilledLane = lane_view notes in
     let value : TalValue = plain_view notes tal in
     let make : ℕ → List TalValue → FilledLane = λ f ts. record { free = f; tals = ts } in
     let old : FilledLane = get_or (map view lanes) place (record { free = 0; tals = [] }) in
     let same : old ≡ view (get_or lanes place d) = get_or-map view lanes place d (record { free = 0; tals = [] }) within in
     let one : view after ≡ with_tal value (view (get_or lanes place d)) =
-    ap (λ f. make f (map (plain_view notes) after.tals.items)) (free ∙ ap (λ n. (get_or lanes place d).free - n) (sym is))
-    ∙ ap (λ ts. make ((get_or lanes place d).free - tal_bytes value) (map (plain_view notes) ts)) tals
-    ∙ ap (make ((get_or lanes place d).free - tal_bytes value)) (map-append (plain_view notes) (get_or lanes place d).tals.items (tal ∷ [])) in
+    ap (λ f. make f (map (plain_view notes) (tals_in after))) (free ∙ ap (λ n. had.free - n) (sym is))
+    ∙ ap (λ ts. make (had.free - tal_bytes value) (map (plain_view notes) ts)) told
+    ∙ ap (make (had.free - tal_bytes value)) (map-append (plain_view notes) (tals_in had) (tal ∷ [])) in
     map-set view lanes place after
     ∙ ap (set (map view lanes) place) (one ∙ ap (with_tal value) (sym same))
     ∙ sym (put-is value at (map view lanes) (let e = length-map lanes view in omega (arith, e, low))

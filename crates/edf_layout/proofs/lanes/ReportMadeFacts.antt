@@ -1,5 +1,5 @@
 -- The lines that were put one behind the other are the text of a layout.
-use Rattle.std.proofs.Common.{◌≡◌, ℕ, ◌+◌, List, ◌++◌, length, Result, Ok, Err, IfOk, ap, ◌∙◌, subst, append_assoc}
+use Rattle.std.proofs.Common.{sym, ◌≡◌, ℕ, ◌+◌, List, ◌++◌, length, Result, Ok, Err, IfOk, ap, ◌∙◌, subst, append_assoc}
 use Rattle.std.specs.List.{flat_map}
 use Rattle.std.specs.declared.alloc.AllocError.{AllocError}
 use Rattle.edf_header.specs.Heads.{Head}
@@ -41,13 +41,13 @@ report-made front columns h order odd l lines places n m (Ok r) head put there s
 -- the order and the odd lanes are those of what is kept of the file
 pub all-kept : (front columns : List ℕ) (h : Head) (body : FileBody) (sizes : List ℕ) (order : PlainOrder) (odd : List OddLane) (r : Result Report AllocError)
     → sizes ≡ lane_sizes h
-    → ((layout : BodyLayout) → HaveRowLayouts (notes_kept body) (lanes_kept body) layout → IsLaidBody (notes_kept body) sizes body.starts.items layout order odd)
+    → ((layout : BodyLayout) → HaveRowLayouts (notes_kept body) (lanes_kept sizes body) layout → IsLaidBody (notes_kept body) sizes body.starts.items layout order odd)
     → IfOk r (λ r. IsTextOf (layout_made front columns h order odd) h r.text.items r.outcome)
-    → IfOk r (λ r. (layout : BodyLayout) → HaveRowLayouts (notes_kept body) (lanes_kept body) layout → IsTextOf (layout_kept front columns h body layout) h r.text.items r.outcome)
+    → IfOk r (λ r. (layout : BodyLayout) → HaveRowLayouts (notes_kept body) (lanes_kept (lane_sizes h) body) layout → IsTextOf (layout_kept front columns h body layout) h r.text.items r.outcome)
 unfolding layout_kept
 all-kept front columns h body sizes order odd (Err e) same laid made = tt
 all-kept front columns h body sizes order odd (Ok r) same laid made = λ layout rows.
-    let is = laid layout rows in
+    let is = laid layout (subst (λ ss. HaveRowLayouts (notes_kept body) (lanes_kept ss body) layout) (sym same) rows) in
     let notes = notes_kept body in
     let starts = body.starts.items in
     let first : order ≡ order_kept h body layout = is.order_is ∙ ap (λ ss. base_order notes ss starts layout) same in

@@ -15,9 +15,10 @@ use Rattle.edf_stream.specs.times.StartsReading.{start_in, start_at}
 use Rattle.edf_stream.specs.Views.{note_value}
 use Rattle.edf_layout.specs.body.MeaningLaws.{AreInOrder}
 use Rattle.edf_layout.specs.body.NoteOrders.{note_cmp}
-use Rattle.edf_layout.specs.body.PlainOrders.{HaveStarts}
+use Rattle.edf_layout.specs.body.PlainOrders.{HaveStarts, lane_sizes}
 use Rattle.edf_layout.specs.declared.whole.file_body.FileBody.{FileBody}
 use Rattle.edf_layout.specs.whole.FileBodies.{lanes_kept, notes_kept, IsBody}
+use Rattle.edf_layout.specs.whole.KeptLanes.{rows_kept}
 use Rattle.edf_layout.proofs.reading.GatheredFacts.{gathered, gathered-count, gathered-at}
 
 -- the annotation lanes and the annotations of data record k
@@ -81,10 +82,10 @@ starts-there law file h c = record {
 -- all of its data records were read
 pub body-read : NotesAreSaid → (file : List ℕ) (h : Head) (k : ℕ) (starts : List ℤ) (lanes : List (List (List ℕ))) (notes : List NoteValue) (body : FileBody)
     → Conforms file h → k ≡ h.records → IsGathered file h k starts lanes notes
-    → body.starts.items ≡ starts → lanes_kept body ≡ lanes → IsPermutation notes (notes_kept body) → IsBody file h body
+    → body.starts.items ≡ starts → lanes_kept (lane_sizes h) body ≡ lanes → IsPermutation notes (notes_kept body) → IsBody file h body
 body-read law file h k starts lanes notes body c all had s l n =
     let starts-are : body.starts.items ≡ gathered (start_at file h) h.records = s ∙ had.starts_are ∙ ap (gathered (start_at file h)) all in
-    let lanes-are : lanes_kept body ≡ gathered (lanes_of file h) h.records = l ∙ had.lanes_are ∙ ap (gathered (lanes_of file h)) all in
+    let lanes-are : lanes_kept (lane_sizes h) body ≡ gathered (lanes_of file h) h.records = l ∙ had.lanes_are ∙ ap (gathered (lanes_of file h)) all in
     let notes-are : notes ≡ together (notes_at file h) h.records = had.notes_are ∙ ap (together (notes_at file h)) all in
     record {
       conforms = c;
@@ -105,6 +106,6 @@ values-sorted (x ∷ xs) up k d low high =
     let within : k + 1 < length (x ∷ xs) = (let e = length-map (x ∷ xs) note_value in omega (arith, high, e)) in
     rw (get_or-map note_value (x ∷ xs) (k + 1) x d within, get_or-map note_value (x ∷ xs) k x d (omega (arith, within))) (up k x low within)
 
--- each data record whose lanes are kept counts once
-pub kept-count : (body : FileBody) → length (lanes_kept body) ≡ length body.lanes.items
-kept-count body = length-map body.lanes.items (λ lanes. map (λ lane. lane.items) lanes.items)
+-- where there are no starts, no lanes are kept
+pub nothing-kept : (sizes : List ℕ) (body : FileBody) → body.starts.items ≡ [] → lanes_kept sizes body ≡ []
+nothing-kept sizes body none = ap (λ ss. rows_kept sizes ss body.lanes.items) none

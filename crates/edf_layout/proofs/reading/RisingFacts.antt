@@ -1,10 +1,18 @@
 -- The starts of data records that were read one behind the other.
-use Rattle.std.proofs.Common.{◌≡◌, inl, inr, ℕ, ℤ, ◌<◌, ◌+ℤ◌, ◌<ℤ◌, ◌≤ℤ◌, List, [], ◌∷◌, ◌++◌, length, get_or, sym, subst, arith, length-append}
+use Rattle.std.proofs.Common.{◌≡◌, inl, inr, ℕ, ℤ, refl, lit<, unsigned_abs, Result, Ok, Err, ◌^◌, ◌<◌, ◌+ℤ◌, ◌<ℤ◌, ◌≤ℤ◌, List, [], ◌∷◌, ◌++◌, length, get_or, sym, subst, arith, length-append}
 use Rattle.std.proofs.Math.Seq.{get_or-append_seam}
 use Rattle.std.proofs.lemmas.Bool.{cases_lt}
 use Rattle.std.proofs.lemmas.Int.{ints}
 use Rattle.std.proofs.lemmas.List.{get_or_append_left}
+use Rattle.edf_header.specs.Heads.{Head}
+use Rattle.edf_tal.specs.Reading.{items_of}
+use Rattle.edf_tal.specs.Views.{start_of}
+use Rattle.edf_tal.specs.declared.start.StartCause.{StartCause}
+use Rattle.edf_tal.proofs.ForCallers.{starts-at, start_small}
+use Rattle.edf_stream.specs.records.Records.{annotation_lanes}
+use Rattle.edf_stream.specs.times.StartsReading.{said_start, start_by_lanes, or_zero, start_in}
 use Rattle.edf_layout.specs.body.PlainLanes.{AreRising}
+use Rattle.edf_layout.specs.whole.FileBodies.{AreNear}
 
 -- no data record of this duration with one of these starts ends behind this
 abbrev pub EndBy : List ℤ → ℤ → ℤ → Type 0
@@ -38,3 +46,23 @@ rising-more starts start duration old new up by later is i j d le low =
 pub ends-more : (starts : List ℤ) (start duration old new : ℤ) → EndBy starts duration old → old <ℤ new → new ≡ start +ℤ duration → EndBy (starts ++ start ∷ []) duration new
 ends-more starts start duration old new by later is k d low =
     one-in starts start k d low (λ z. (z +ℤ duration) ≤ℤ new) (λ front. let b = by k d front in omega (arith, ints, b, later)) (λ last. omega (arith, ints, is))
+
+-- starts that a TAL can have
+pub none-near : AreNear []
+none-near k d low = absurd (omega (arith, low))
+
+pub near-more : (starts : List ℤ) (start : ℤ) → AreNear starts → unsigned_abs start < 10 ^ 21 → AreNear (starts ++ start ∷ [])
+near-more starts start near one k d low = one-in starts start k d low (λ z. unsigned_abs z < 10 ^ 21) (near k d) (λ e. one)
+
+-- the start of a data record is one
+pub start-near : (h : Head) (bytes : List ℕ) → unsigned_abs (start_in h bytes) < 10 ^ 21
+unfolding said_start
+start-near h bytes = said (annotation_lanes h.signals bytes)
+  where
+    said : (lanes : List (List ℕ)) → unsigned_abs (or_zero (start_by_lanes lanes)) < 10 ^ 21
+    said [] = lit< tt
+    said (lane ∷ lanes) = cases (start_of (items_of lane)) refl
+      where
+        cases : (r : Result ℤ StartCause) → r ≡ start_of (items_of lane) → unsigned_abs (or_zero (start_of (items_of lane))) < 10 ^ 21
+        cases (Err cause) e = subst (λ (x : Result ℤ StartCause). unsigned_abs (or_zero x) < 10 ^ 21) e (lit< tt)
+        cases (Ok v) e = subst (λ (x : Result ℤ StartCause). unsigned_abs (or_zero x) < 10 ^ 21) e (start_small lane v ((starts-at (Ok v) lane v e).0 refl))

@@ -1,5 +1,5 @@
 -- Lanes that a plain order fills, as the code holds them.
-use Rattle.std.specs.Prelude.{◌≡◌, ℕ, ℤ, Bool, false, ◌+◌, ◌/◌, ◌<◌, ◌≤◌, ◌≤ℤ◌, nat_le, List, length, slice_index_or, take, drop, map, slice_get, Option, Some, None, pos}
+use Rattle.std.specs.Prelude.{◌≡◌, ℕ, ℤ, Bool, false, ◌+◌, ◌/◌, ◌<◌, ◌≤◌, ◌≤ℤ◌, nat_le, List, [], ◌∷◌, ◌++◌, length, slice_index_or, take, drop, map, slice_get, Option, Some, None, pos}
 use Rattle.std.specs.List.{position}
 use Rattle.std.specs.Option.{option_map_or}
 use Rattle.edf_tal.specs.Tals.{TalValue}
@@ -21,9 +21,18 @@ abbrev pub plain_view : List NoteValue → PlainTal → TalValue
 plain_view notes (tals.KeepsTime start) = tal_of_start start
 plain_view notes (tals.Annotates n) = option_map_or tal_of_note (slice_get notes n) (tal_of_start (pos 0))
 
+-- the TAL that keeps the time of a data record with this start, if there is one
+abbrev pub time_in : Option ℤ → List PlainTal
+time_in None = []
+time_in (Some start) = tals.KeepsTime start ∷ []
+
+-- the TALs of a lane: that which keeps the time, if there is one, and then one for each annotation
+abbrev pub tals_in : PlainLane → List PlainTal
+tals_in lane = time_in lane.start ++ map tals.Annotates lane.notes.items
+
 -- a lane
 abbrev pub lane_view : List NoteValue → PlainLane → FilledLane
-lane_view notes lane = record { free = lane.free; tals = map (plain_view notes) lane.tals.items }
+lane_view notes lane = record { free = lane.free; tals = map (plain_view notes) (tals_in lane) }
 
 -- the first of some lanes that has so much room
 abbrev pub room_in : List PlainLane → ℕ → Option ℕ

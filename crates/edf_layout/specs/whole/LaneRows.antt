@@ -8,7 +8,7 @@ use Rattle.edf_layout.specs.body.LaidTals.{laid_view}
 use Rattle.edf_layout.specs.body.LaneLayouts.{IsLaidLane}
 use Rattle.edf_layout.specs.body.LaneReading.{contents_by}
 use Rattle.edf_layout.specs.body.OddLanes.{OddLane as OddLaneValue, odd_lanes, base_order}
-use Rattle.edf_layout.specs.body.PlainLanes.{plain_view}
+use Rattle.edf_layout.specs.body.PlainLanes.{plain_view, tals_in}
 use Rattle.edf_layout.specs.body.PlainOrders.{PlainOrder, placed_plainly}
 use Rattle.edf_layout.specs.declared.plain_lanes.PlainLane.{PlainLane}
 use Rattle.edf_layout.specs.declared.plain_lanes.PlainTal.{PlainTal}
@@ -40,11 +40,11 @@ plainly_laid notes keeps tals = map placed_plainly (contents_by keeps notes tals
 
 -- what stands in the lane of this number of those that a plain order fills; nothing where there is no such lane
 abbrev pub tals_at : List PlainLane → ℕ → List PlainTal
-tals_at lanes number = option_map_or (λ (lane : PlainLane). lane.tals.items) (slice_get lanes number) []
+tals_at lanes number = option_map_or tals_in (slice_get lanes number) []
 
 -- the TALs in a lane that a plain order fills
 abbrev pub plain_tals : List NoteValue → PlainLane → List TalValue
-plain_tals notes lane = map (plain_view notes) lane.tals.items
+plain_tals notes lane = map (plain_view notes) (tals_in lane)
 
 -- a lane that a plain order has otherwise
 abbrev pub odd_view : OddLane → OddLaneValue

@@ -1,7 +1,7 @@
 //! What is kept of the data records of a file: all but their samples. EDF+ (2003), "The 'EDF Annotations'
 //! signal".
 
-ghost use Rattle.std.specs.Prelude.{◌≡◌, ℕ, List, ◌++◌, ◌∷◌, [], map, None, Some, IfOk, IfErr, OnOk, IsTrue};
+ghost use Rattle.std.specs.Prelude.{◌≡◌, ℕ, List, length, ◌++◌, ◌∷◌, [], map, None, Some, IfOk, IfErr, OnOk, IsTrue};
 ghost use Rattle.std.specs.List.Sorted.{IsPermutation, IsSorted};
 ghost use Rattle.edf_fields.specs.in_out.Sources.{Fails};
 ghost use Rattle.edf_header.specs.Stops.{Stops};
@@ -12,8 +12,10 @@ ghost use Rattle.edf_stream.specs.records.Records.{annotation_lanes};
 ghost use Rattle.edf_stream.specs.times.StartsReading.{start_in};
 ghost use Rattle.edf_stream.specs.Views.{note_view, note_value, notes_left};
 ghost use Rattle.edf_layout.specs.body.NoteOrders.{note_cmp};
+ghost use Rattle.edf_layout.specs.body.PlainOrders.{lane_sizes};
 ghost use Rattle.edf_layout.specs.whole.FileBodies.{lanes_kept, notes_kept, IsSoundBody, IsBody};
 
+use crate::whole::kept_lane::{KeptLane, lanes_at_hand};
 use edf_fields::Source;
 use edf_header::Stop;
 use edf_stream::laws::annotations_are_said;
@@ -27,24 +29,8 @@ pub struct FileBody {
     pub notes: Vec<Note>,
     /// Where each data record starts, in picoseconds after the start of the file.
     pub starts: Vec<i128>,
-    /// The annotation lanes of each data record.
-    pub lanes: Vec<Vec<Vec<u8>>>,
-}
-
-/// Copies of the annotation lanes of the data record at hand, in file order.
-fn lanes_at_hand(alloc: Global, reader: &FileReader) -> Result<Vec<Vec<u8>>, AllocError>
-    requires { IsTrue (is_current reader.now.status) }
-    ensures { IfOk result (λ v. map (λ lane. lane.items) v.items ≡
-        annotation_lanes reader.now.head.signals reader.now.current) }
-{
-    let signals = reader.header().signals();
-    let mut lanes = Vec::new(alloc);
-    for (number, signal) in signals.iter().enumerate() {
-        if signal.is_annotations() {
-            lanes.push(Vec::from_slice(alloc, reader.run(number))?)?;
-        }
-    }
-    Ok(lanes)
+    /// The annotation lanes of each data record, up to the last one that isn't bare.
+    pub lanes: Vec<Vec<KeptLane>>,
 }
 
 /// Puts a copy of an annotation behind `notes`, with its onset as the file has it.
@@ -81,7 +67,7 @@ impl FileBody {
     fn new(alloc: Global) -> FileBody
         ensures notes { notes_kept result ≡ [] }
         ensures starts { result.starts.items ≡ [] }
-        ensures lanes { lanes_kept result ≡ [] }
+        ensures lanes { result.lanes.items ≡ [] }
     {
         FileBody {
             notes: Vec::new(alloc),
@@ -94,15 +80,25 @@ impl FileBody {
     /// the data records before it.
     fn add(&mut self, alloc: Global, reader: &FileReader) -> Result<(), AllocError>
         requires current { IsTrue (is_current reader.now.status) }
+        requires alike { length self.old.lanes.items ≡ length self.old.starts.items }
+        ensures alike { OnOk result (length self.new.lanes.items ≡ length self.new.starts.items) }
         ensures starts { OnOk result (self.new.starts.items ≡ self.old.starts.items ++
             start_in reader.now.head reader.now.current ∷ []) }
-        ensures lanes { OnOk result (lanes_kept self.new ≡ lanes_kept self.old ++
+        ensures lanes { OnOk result (lanes_kept (lane_sizes reader.now.head) self.new ≡
+            lanes_kept (lane_sizes reader.now.head) self.old ++
             annotation_lanes reader.now.head.signals reader.now.current ∷ []) }
         ensures notes { OnOk result (notes_kept self.new ≡ notes_kept self.old ++
             notes_in reader.now.head reader.now.current) }
     {
-        self.starts.push(reader.start_ps())?;
-        self.lanes.push(lanes_at_hand(alloc, reader)?)?;
+        let start = reader.start_ps();
+        let lanes = lanes_at_hand(alloc, reader, start)?;
+        let are_bare = lanes.is_empty();
+        self.starts.push(start)?;
+        self.lanes.push(lanes)?;
+        // bare lanes have no annotation
+        if are_bare {
+            return Ok(());
+        }
         push_notes(alloc, &mut self.notes, reader.annotations())
     }
 
@@ -111,7 +107,7 @@ impl FileBody {
         ensures same { IsPermutation self.old.notes.items self.new.notes.items }
         ensures order { IsSorted (λ x y. note_cmp (note_value x) (note_value y)) self.new.notes.items }
         ensures starts { self.new.starts.items ≡ self.old.starts.items }
-        ensures lanes { lanes_kept self.new ≡ lanes_kept self.old }
+        ensures lanes { self.new.lanes.items ≡ self.old.lanes.items }
     {
         self.notes.sort_unstable();
     }

@@ -87,7 +87,7 @@ fn lay_body<'a>(
 ) -> Result<LaidBody<'a>, AllocError>
     requires { IsSoundBody body.now }
     ensures { IfOk result (λ laid. (layout : BodyLayout) →
-        HaveRowLayouts (notes_kept body.entry.now) (lanes_kept body.entry.now) layout →
+        HaveRowLayouts (notes_kept body.entry.now) (lanes_kept sizes.now body.entry.now) layout →
         IsLaidBody (notes_kept body.entry.now) sizes.now body.entry.now.starts.items layout
         (order_view laid.order) (map odd_view laid.odd.items)) }
 {
@@ -217,7 +217,7 @@ fn laid_out(alloc: Global, file: &WholeFile) -> Result<Report, AllocError>
     requires head { IsWhole file.now.head.front.items file.now.head.columns.items file.now.head.header }
     requires body { IsSoundBody file.now.body }
     ensures { IfOk result (λ r. (layout : BodyLayout) →
-        HaveRowLayouts (notes_kept file.now.body) (lanes_kept file.now.body) layout →
+        HaveRowLayouts (notes_kept file.now.body) (lanes_kept (sizes_of file.now.head.header) file.now.body) layout →
         IsTextOf (layout_kept file.now.head.front.items file.now.head.columns.items file.now.head.header
         file.now.body layout) file.now.head.header r.text.items r.outcome) }
 {
@@ -250,7 +250,8 @@ fn report<S: Source>(alloc: Global, source: &mut S) -> Result<Report, ReportStop
 /// What is written is the same for two files that mean the same only where they are the same bytes
 /// (`laws::lines_and_meaning_are_the_file`).
 ///
-/// The annotation lanes of the file are held in memory, and its annotations; of its samples one data record is.
+/// Of the file are held in memory its annotations, where each data record starts, and those annotation lanes that
+/// have more than the time, spelled plainly; of its samples one data record is.
 /// The outcome is `Yes` exactly where the file has no fault and is plain. The errors are want of memory, a failed
 /// read and a failed write. Nothing is written before the file was read; where the sink fails, a front of the
 /// text was written.

@@ -1,18 +1,22 @@
 //! The annotation lanes of a file that a plain order has otherwise.
 
-ghost use Rattle.std.specs.Prelude.{◌≡◌, ◌++◌, ◌==◌, true, false, List, map, IfOk, IsTrue, OnOk};
+ghost use Rattle.std.specs.Prelude.{◌≡◌, ◌++◌, ◌∷◌, ◌==◌, ◌<◌, ◌^◌, true, false, ℕ, ℤ, List, length, map, unsigned_abs, IfOk, IsTrue, OnOk};
+ghost use Rattle.std.specs.Option.{option_map_or};
 ghost use Rattle.std.specs.Str.{bytes_eq};
 ghost use Rattle.edf_stream.specs.Views.{note_value};
 ghost use Rattle.edf_stream.specs.annotation.Notes.{NoteValue};
+ghost use Rattle.edf_tal.specs.Tals.{TalValue};
+ghost use Rattle.edf_layout.specs.body.LaneReading.{keeps_now as keeps_now_of};
 ghost use Rattle.edf_layout.specs.body.BodyLayouts.{PlacedTal, RecordLayout, BodyLayout, content_of, timekeeping_of};
 ghost use Rattle.edf_layout.specs.body.LaidNotes.{laid_note};
 ghost use Rattle.edf_layout.specs.body.LaidTals.{content_view, laid_view};
 ghost use Rattle.edf_layout.specs.body.MeaningLaws.{AreInOrder};
 ghost use Rattle.edf_layout.specs.body.OddLanes.{odd_lane, odd_in, odd_lanes as odd_lanes_of, tal_lines};
-ghost use Rattle.edf_layout.specs.body.PlainLanes.{order_view, plain_view};
+ghost use Rattle.edf_layout.specs.body.PlainLanes.{order_view, plain_view, tals_in, time_in};
 ghost use Rattle.edf_layout.specs.body.PlainOrders.{plain_record, tal_of_note};
 ghost use Rattle.edf_layout.specs.whole.FileBodies.{IsSoundBody, lanes_kept, notes_kept};
-ghost use Rattle.edf_layout.specs.whole.LaneRows.{AreFirst, HasLaneLayout, HaveLaneLayouts, HaveRowLayouts, plainly_laid, plain_tals, odd_view, tals_at as tals_placed};
+ghost use Rattle.edf_layout.specs.whole.KeptLanes.{bare_bytes, bare_layout, record_kept};
+ghost use Rattle.edf_layout.specs.whole.LaneRows.{AreFirst, HasLaneLayout, HaveLaneLayouts, HaveRowLayouts, plainly_laid, plain_tals, odd_view, tals_at};
 
 use crate::laid_tal::{Content, LaidTal, push_tals};
 use crate::lane_layout::{keeps_now, lay_lane};
@@ -20,6 +24,7 @@ use crate::note_places::{laid, place_of};
 use crate::plain_lanes::{Order, PlainLane, PlainTal, filled_lanes};
 use crate::plain_tal::LaidNote;
 use crate::whole::file_body::FileBody;
+use crate::whole::kept_lane::{KeptLane, own_bytes};
 use edf_stream::Note;
 use std::alloc::{AllocError, Global};
 
@@ -34,19 +39,20 @@ pub struct OddLane<'a> {
     pub tals: Vec<LaidTal<'a>>,
 }
 
-/// A lane of a file, with its place.
+/// A lane of a file, with its place, and its bytes where it isn't bare.
 #[derive(Clone, Copy)]
 struct LaneAt<'a> {
     data_record: usize,
     number: usize,
-    bytes: &'a [u8],
+    bytes: Option<&'a [u8]>,
 }
 
-/// The lanes of a data record of a file, with its number.
+/// The lanes of a data record of a file, with its number: how many they are, and those that are kept.
 #[derive(Clone, Copy)]
 struct LanesAt<'a> {
     data_record: usize,
-    lanes: &'a [Vec<u8>],
+    count: usize,
+    lanes: &'a [KeptLane],
 }
 
 /// The annotation that a plain TAL has; of one that keeps the time, its start and no text.
@@ -91,28 +97,98 @@ fn plain_content(
     Ok(Content::Annotates(places))
 }
 
-/// The layout of the TALs that a plain order puts into a lane; `keeps_time` says whether the first of them keeps
-/// the time of its data record.
+/// Puts the layout of a plain TAL behind the TALs of its lane that are laid out; `keeps_time` says whether the first
+/// of them keeps the time of its data record.
+fn push_plain<'a>(
+    laid: &mut Vec<LaidTal<'a>>,
+    alloc: Global,
+    notes: &[Note],
+    tal: PlainTal,
+    keeps_time: bool,
+) -> Result<(), AllocError>
+    requires { AreInOrder (map note_value notes.now) }
+    ensures { OnOk result ((rest : List TalValue) → map laid_view laid.new.items ++
+        plainly_laid (map note_value notes.now) (keeps_now_of keeps_time (map laid_view laid.new.items)) rest ≡
+        map laid_view laid.old.items ++ plainly_laid (map note_value notes.now)
+        (keeps_now_of keeps_time (map laid_view laid.old.items))
+        (plain_view (map note_value notes.now) tal ∷ rest)) }
+{
+    let keeps = keeps_now(keeps_time, laid);
+    laid.push(LaidTal {
+        onset: None,
+        duration: None,
+        content: plain_content(alloc, notes, tal, keeps)?,
+    })?;
+    Ok(())
+}
+
+/// The layout of the TAL that keeps the time of a data record with this start, where there is one.
+fn lay_start(
+    alloc: Global,
+    notes: &[Note],
+    start: Option<i128>,
+    keeps_time: bool,
+) -> Result<Vec<LaidTal<'static>>, AllocError>
+    requires { AreInOrder (map note_value notes.now) }
+    ensures { IfOk result (λ laid. (rest : List TalValue) → map laid_view laid.items ++
+        plainly_laid (map note_value notes.now) (keeps_now_of keeps_time (map laid_view laid.items)) rest ≡
+        plainly_laid (map note_value notes.now) keeps_time
+        (map (plain_view (map note_value notes.now)) (time_in start) ++ rest)) }
+{
+    let mut laid = Vec::new(alloc);
+    if let Some(start) = start {
+        push_plain(
+            &mut laid,
+            alloc,
+            notes,
+            PlainTal::KeepsTime(start),
+            keeps_time,
+        )?;
+    }
+    Ok(laid)
+}
+
+/// The layout of the TALs of a lane that a plain order fills; `keeps_time` says whether the first of them keeps the
+/// time of its data record.
 fn lay_plain(
     alloc: Global,
     notes: &[Note],
-    tals: &[PlainTal],
+    plain: &PlainLane,
     keeps_time: bool,
 ) -> Result<Vec<LaidTal<'static>>, AllocError>
     requires { AreInOrder (map note_value notes.now) }
     ensures { IfOk result (λ laid. map laid_view laid.items ≡ plainly_laid (map note_value notes.now)
-        keeps_time (map (plain_view (map note_value notes.now)) tals.now)) }
+        keeps_time (map (plain_view (map note_value notes.now)) (tals_in plain.now))) }
 {
-    let mut laid = Vec::new(alloc);
-    for tal in tals {
-        let keeps = keeps_now(keeps_time, &laid);
-        laid.push(LaidTal {
-            onset: None,
-            duration: None,
-            content: plain_content(alloc, notes, *tal, keeps)?,
-        })?;
+    let mut laid = lay_start(alloc, notes, plain.start, keeps_time)?;
+    for number in &plain.notes {
+        push_plain(
+            &mut laid,
+            alloc,
+            notes,
+            PlainTal::Annotates(*number),
+            keeps_time,
+        )?;
     }
     Ok(laid)
+}
+
+/// The layout of the TALs that a plain order puts into the lane of this number of a data record; of none where there
+/// is no such lane.
+fn lay_plain_at(
+    alloc: Global,
+    notes: &[Note],
+    plain: &[PlainLane],
+    number: usize,
+) -> Result<Vec<LaidTal<'static>>, AllocError>
+    requires { AreInOrder (map note_value notes.now) }
+    ensures { IfOk result (λ laid. map laid_view laid.items ≡ plainly_laid (map note_value notes.now)
+        (number == 0) (map (plain_view (map note_value notes.now)) (tals_at plain.now number))) }
+{
+    match plain.get(number) {
+        Some(lane) => lay_plain(alloc, notes, lane, number == 0),
+        None => Ok(Vec::new(alloc)),
+    }
 }
 
 /// Whether both TALs are spelled plainly and say the same.
@@ -160,46 +236,77 @@ fn have_same_lines(
     Ok(lines == other_lines)
 }
 
-/// Whether these TALs, and those that a plain order puts there, are one that only keeps the time, spelled plainly.
-fn only_keep_time(tals: &[LaidTal<'_>], plain: &[PlainTal]) -> bool
-    ensures { IsTrue result → (notes : List NoteValue) →
-        map laid_view tals.now ≡ plainly_laid notes true (map (plain_view notes) plain.now) }
+/// The layout of the TALs of a bare lane; `keeps_time` says whether it is the first one of its data record.
+fn lay_bare(alloc: Global, keeps_time: bool) -> Result<Vec<LaidTal<'static>>, AllocError>
+    ensures { IfOk result (λ laid. map laid_view laid.items ≡ bare_layout keeps_time) }
 {
-    let [tal] = tals else {
-        return false;
-    };
-    let [PlainTal::KeepsTime(_)] = plain else {
-        return false;
-    };
-    match &tal.content {
-        Content::KeepsTime(None, places) => {
-            tal.onset.is_none() && tal.duration.is_none() && places.is_empty()
-        }
-        _ => false,
+    let mut laid = Vec::new(alloc);
+    if keeps_time {
+        laid.push(LaidTal {
+            onset: None,
+            duration: None,
+            content: Content::KeepsTime(None, Vec::new(alloc)),
+        })?;
+    }
+    Ok(laid)
+}
+
+/// The layout of the TALs of a lane.
+fn lay<'a>(alloc: Global, notes: &[Note], lane: LaneAt<'a>) -> Result<Vec<LaidTal<'a>>, AllocError>
+    requires { AreInOrder (map note_value notes.now) }
+    ensures { IfOk result (λ tals. (start : ℤ) (size : ℕ) (laid : List PlacedTal) →
+        unsigned_abs start < 10 ^ 21 → HasLaneLayout (map note_value notes.now) (lane.entry.number == 0)
+        (option_map_or (λ bytes. bytes.now) lane.entry.bytes (bare_bytes (lane.entry.number == 0) start size))
+        laid → map laid_view tals.items ≡ laid) }
+{
+    let keeps_time = lane.number == 0;
+    if let Some(bytes) = lane.bytes {
+        return lay_lane(alloc, notes, bytes, keeps_time);
+    }
+    lay_bare(alloc, keeps_time)
+}
+
+/// Whether a lane that a plain order fills has only what a bare one has, which keeps the time or doesn't.
+fn has_no_note(plain: &PlainLane, keeps_time: bool) -> bool
+    ensures { IsTrue result → (notes : List NoteValue) →
+        plainly_laid notes keeps_time (map (plain_view notes) (tals_in plain.now)) ≡ bare_layout keeps_time }
+{
+    plain.notes.is_empty() && plain.start.is_some() == keeps_time
+}
+
+/// Whether a plain order puts into the lane of this number of a data record only what a bare one has.
+fn are_bare(plain: &[PlainLane], number: usize) -> bool
+    ensures { IsTrue result → (notes : List NoteValue) → plainly_laid notes (number == 0)
+        (map (plain_view notes) (tals_at plain.now number)) ≡ bare_layout (number == 0) }
+{
+    match plain.get(number) {
+        Some(lane) => has_no_note(lane, number == 0),
+        None => false,
     }
 }
 
-/// Puts a lane behind the odd ones, where other lines are written of it than of these plain TALs.
+/// Puts a lane behind the odd ones, where other lines are written of it than of the one that a plain order, which
+/// fills these of its data record, has in its place.
 fn push_odd<'a>(
     odd: &mut Vec<OddLane<'a>>,
     alloc: Global,
     notes: &[Note],
     lane: LaneAt<'a>,
-    plain: &[PlainTal],
+    plain: &[PlainLane],
 ) -> Result<(), AllocError>
     requires { AreInOrder (map note_value notes.now) }
-    ensures { OnOk result ((laid : List PlacedTal) →
-        HasLaneLayout (map note_value notes.now) (lane.entry.number == 0) lane.entry.bytes.now laid →
-        map odd_view odd.new.items ≡ map odd_view odd.old.items ++ odd_lane lane.entry.data_record
+    ensures { OnOk result ((start : ℤ) (size : ℕ) (laid : List PlacedTal) → unsigned_abs start < 10 ^ 21 →
+        HasLaneLayout (map note_value notes.now) (lane.entry.number == 0)
+        (option_map_or (λ bytes. bytes.now) lane.entry.bytes (bare_bytes (lane.entry.number == 0) start size))
+        laid → map odd_view odd.new.items ≡ map odd_view odd.old.items ++ odd_lane lane.entry.data_record
         lane.entry.number laid (plainly_laid (map note_value notes.now) (lane.entry.number == 0)
-        (map (plain_view (map note_value notes.now)) plain.now))) }
+        (map (plain_view (map note_value notes.now)) (tals_at plain.now lane.entry.number)))) }
 {
-    let keeps_time = lane.number == 0;
-    let tals = lay_lane(alloc, notes, lane.bytes, keeps_time)?;
-    if keeps_time && only_keep_time(&tals, plain) {
+    if lane.bytes.is_none() && are_bare(plain, lane.number) {
         return Ok(());
     }
-    let expected = lay_plain(alloc, notes, plain, keeps_time)?;
+    let tals = lay(alloc, notes, lane)?;
+    let expected = lay_plain_at(alloc, notes, plain, lane.number)?;
     if !have_same_lines(alloc, &tals, &expected)? {
         odd.push(OddLane {
             data_record: lane.data_record,
@@ -208,17 +315,6 @@ fn push_odd<'a>(
         })?;
     }
     Ok(())
-}
-
-/// The TALs that a plain order puts into the lane of this number of a data record; none where there is no such
-/// lane.
-fn tals_at(plain: &[PlainLane], number: usize) -> &[PlainTal]
-    ensures { result.now ≡ tals_placed plain.entry.now number }
-{
-    match plain.get(number) {
-        Some(lane) => &lane.tals,
-        None => &[],
-    }
 }
 
 /// Puts the lanes of a data record behind the odd ones that a plain order, which puts these into it, has
@@ -231,18 +327,19 @@ fn push_odd_in<'a>(
     plain: &[PlainLane],
 ) -> Result<(), AllocError>
     requires { AreInOrder (map note_value notes.now) }
-    ensures { OnOk result ((layout : RecordLayout) →
-        HaveLaneLayouts (map note_value notes.now) 0 (map (λ lane. lane.items) at.entry.lanes.now) layout →
+    ensures { OnOk result ((start : ℤ) (sizes : List ℕ) (layout : RecordLayout) →
+        unsigned_abs start < 10 ^ 21 → length sizes ≡ at.entry.count →
+        HaveLaneLayouts (map note_value notes.now) 0 (record_kept true start sizes at.entry.lanes.now) layout →
         map odd_view odd.new.items ≡ map odd_view odd.old.items ++ odd_in at.entry.data_record 0 layout
         (plain_record (map note_value notes.now) (map (plain_tals (map note_value notes.now)) plain.now))) }
 {
-    for (number, bytes) in at.lanes.iter().enumerate() {
+    for number in 0..at.count {
         let lane = LaneAt {
             data_record: at.data_record,
             number,
-            bytes,
+            bytes: own_bytes(at.lanes, number),
         };
-        push_odd(odd, alloc, notes, lane, tals_at(plain, number))?;
+        push_odd(odd, alloc, notes, lane, plain)?;
     }
     Ok(())
 }
@@ -260,7 +357,7 @@ pub fn odd_lanes<'a>(
 ) -> Result<Vec<OddLane<'a>>, AllocError>
     requires { IsSoundBody body.now }
     ensures { IfOk result (λ odd. (layout : BodyLayout) →
-        HaveRowLayouts (notes_kept body.entry.now) (lanes_kept body.entry.now) layout →
+        HaveRowLayouts (notes_kept body.entry.now) (lanes_kept sizes.now body.entry.now) layout →
         AreFirst most (map odd_view odd.items) (odd_lanes_of (order_view order) (notes_kept body.entry.now)
         sizes.now body.entry.now.starts.items layout)) }
 {
@@ -276,7 +373,11 @@ pub fn odd_lanes<'a>(
             return Ok(odd);
         }
         let (here, behind) = rest.split_at(sizes.len().min(rest.len()));
-        let at = LanesAt { data_record, lanes };
+        let at = LanesAt {
+            data_record,
+            count: sizes.len(),
+            lanes,
+        };
         push_odd_in(&mut odd, alloc, &body.notes, at, here)?;
         rest = behind;
     }

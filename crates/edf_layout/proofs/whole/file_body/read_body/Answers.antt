@@ -1,4 +1,4 @@
-use Rattle.std.proofs.Common.{◌≡◌, ◌∷◌, [], ◌+◌, ℕ, List, length, true, Ok, Some, IsTrue, refl, subst, sym, ap, ◌∙◌, length-append}
+use Rattle.std.proofs.Common.{◌≡◌, ◌∷◌, [], ◌++◌, ℕ, List, length, true, Ok, Some, IsTrue, refl, subst, sym, ap, ◌∙◌}
 use Rattle.std.proofs.lemmas.List.Sorted.{IsPermutation-map}
 use Rattle.edf_fields.specs.in_out.Sources.{Fails}
 use Rattle.edf_fields.specs.declared.faults.fault.Fault.{Fault}
@@ -10,9 +10,11 @@ use Rattle.edf_stream.specs.records.Records.{annotation_lanes}
 use Rattle.edf_stream.specs.times.StartsReading.{start_in}
 use Rattle.edf_stream.specs.Views.{note_value}
 use Rattle.edf_layout.specs.body.PlainLanes.{AreRising}
-use Rattle.edf_layout.specs.whole.FileBodies.{lanes_kept, notes_kept, IsBody}
-use Rattle.edf_layout.proofs.reading.BodyFacts.{gathers-none, gathers-more, body-read, kept-count, values-sorted}
-use Rattle.edf_layout.proofs.reading.RisingFacts.{EndBy, none-rise, none-end, rising-more, ends-more}
+use Rattle.edf_layout.specs.whole.FileBodies.{AreNear, lanes_kept, notes_kept, IsBody}
+use Rattle.edf_layout.specs.whole.KeptLanes.{rows_kept}
+use Rattle.edf_layout.specs.body.PlainOrders.{lane_sizes}
+use Rattle.edf_layout.proofs.reading.BodyFacts.{gathers-none, gathers-more, body-read, values-sorted, nothing-kept}
+use Rattle.edf_layout.proofs.reading.RisingFacts.{EndBy, none-rise, none-end, rising-more, ends-more, none-near, near-more, start-near}
 use Rattle.edf_layout.proofs.reading.StopFacts.{stops-reading, handed-on}
 use Rattle.edf_layout.proofs.whole.file_body.read_body.Goals as goal
 
@@ -26,10 +28,11 @@ loop-body-init g c =
       honesty = λ h. h;
       alike = ap length none.lanes ∙ sym (ap length none.starts);
       rising = subst AreRising (sym none.starts) none-rise;
+      near = subst AreNear (sym none.starts) none-near;
       ended = subst (λ starts. EndBy starts ((c.args.reader).head).duration (c.args.reader).ended) (sym none.starts) (none-end ((c.args.reader).head).duration (c.args.reader).ended);
       gathered = λ h file stands. (
         stands,
-        gathers-none file (c.args.reader).head (c.args.reader).read _ _ _ c.requires.1 none.starts none.lanes none.notes,
+        gathers-none file (c.args.reader).head (c.args.reader).read _ _ _ c.requires.1 none.starts (nothing-kept (lane_sizes (c.args.reader).head) c.new-body.result none.starts) none.notes,
       );
     }
 
@@ -46,23 +49,24 @@ loop-body-preserved g c =
     let is = subst IsTrue (sym more) refl in
     let later = next.later is in
     let read = (next.count is).0 in
+    let sizes = lane_sizes (c.args.reader).head in
+    let lanes : lanes_kept sizes has ≡ lanes_kept sizes had ++ annotation_lanes (new.head).signals new.current ∷ [] =
+    subst (λ (x : Head). lanes_kept (lane_sizes x) has ≡ lanes_kept (lane_sizes x) had ++ annotation_lanes (new.head).signals new.current ∷ []) (next.head ∙ before.head) added.lanes in
     let by = subst (λ d. EndBy had.starts.items d old.ended) (sym (ap (λ (x : Head). x.duration) next.head)) before.ended in
     record {
       going = subst IsOpen (sym (next.status ∙ ap (λ b. status_after (Ok b)) more)) tt;
       head = next.head ∙ before.head;
       failures = next.failures ∙ before.failures;
       honesty = λ h. next.honesty (before.honesty h);
-      alike =
-          let lanes : length (lanes_kept has) ≡ length (lanes_kept had) + 1 = ap length added.lanes ∙ length-append (lanes_kept had) (annotation_lanes (new.head).signals new.current ∷ []) in
-          let starts : length has.starts.items ≡ length had.starts.items + 1 = ap length added.starts ∙ length-append had.starts.items (start_in new.head new.current ∷ []) in
-          lanes ∙ ap (λ n. n + 1) before.alike ∙ sym starts;
+      alike = added.alike;
+      near = subst AreNear (sym added.starts) (near-more had.starts.items (start_in new.head new.current) before.near (start-near new.head new.current));
       rising = subst AreRising (sym added.starts) (rising-more had.starts.items (start_in new.head new.current) (new.head).duration old.ended new.ended before.rising by later.0 later.1);
       ended = subst (λ starts. EndBy starts (new.head).duration new.ended) (sym added.starts) (ends-more had.starts.items (start_in new.head new.current) (new.head).duration old.ended new.ended by later.0 later.1);
       gathered = λ h file stands.
           let gave = before.gathered h file stands in
           let comes = subst (λ b. Comes b old new (g.S.Source.left c.next.new.source) file) more (next.comes before.going (before.honesty h) file gave.0) in (
             comes.0,
-            gathers-more file old new had.starts.items has.starts.items (lanes_kept had) (lanes_kept has) (notes_kept had) (notes_kept has) next.head comes.1 read gave.1 added.starts added.lanes added.notes,
+            gathers-more file old new had.starts.items has.starts.items (lanes_kept sizes had) (lanes_kept sizes has) (notes_kept had) (notes_kept has) next.head comes.1 read gave.1 added.starts lanes added.notes,
           );
     }
 
@@ -92,7 +96,8 @@ returns-clause-sound g c =
     record {
       in_order = values-sorted c.sort.new.self.notes.items sorted.order;
       rising = subst AreRising (sym sorted.starts) before.rising;
-      alike = sym (kept-count c.sort.new.self) ∙ ap length sorted.lanes ∙ before.alike ∙ sym (ap length sorted.starts);
+      near = subst AreNear (sym sorted.starts) before.near;
+      alike = ap length sorted.lanes ∙ before.alike ∙ sym (ap length sorted.starts);
     }
 
 pub returns-clause-body : goal.returns-clause-body
@@ -104,7 +109,10 @@ returns-clause-body g c = λ h file stands.
     let sorted = c.sort.ensures in
     let body = c.sort.new.self in
     let end = subst (λ b. Comes b old new (g.S.Source.left c.next.new.source) file) c.if-branch.false (c.in_ok-next.ensures.comes before.going (before.honesty h) file had.0) in
-    let read : IsBody file old.head body = body-read c.annotations_are_said.ensures.said file old.head old.read c.loop-body.body.starts.items (lanes_kept c.loop-body.body) (notes_kept c.loop-body.body) body
-    end.3 end.5 had.1 sorted.starts sorted.lanes
+    let lanes : lanes_kept (lane_sizes old.head) body ≡ lanes_kept (lane_sizes (c.args.reader).head) c.loop-body.body =
+    ap (λ (x : Head). lanes_kept (lane_sizes x) body) before.head ∙ ap (λ ss. rows_kept (lane_sizes (c.args.reader).head) ss body.lanes.items) sorted.starts
+    ∙ ap (rows_kept (lane_sizes (c.args.reader).head) c.loop-body.body.starts.items) sorted.lanes in
+    let read : IsBody file old.head body = body-read c.annotations_are_said.ensures.said file old.head old.read c.loop-body.body.starts.items (lanes_kept (lane_sizes (c.args.reader).head) c.loop-body.body) (notes_kept c.loop-body.body) body
+    end.3 end.5 had.1 sorted.starts lanes
     (IsPermutation-map note_value c.loop-body.body.notes.items body.notes.items sorted.same) in
     (subst (λ x. IsBody file x body) before.head read, ap (body_fault file) (sym before.head) ∙ end.2)

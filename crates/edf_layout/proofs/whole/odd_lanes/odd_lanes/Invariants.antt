@@ -8,7 +8,7 @@ use Rattle.edf_layout.proofs.lanes.OddRowFacts.{RowsLeft, plains_of}
 use Rattle.edf_layout.proofs.whole.odd_lanes.odd_lanes.Given as goal
 
 abbrev pub invariant-loop-data_record : goal.invariant-loop-data_record
-invariant-loop-data_record l = (layout : BodyLayout) → HaveRowLayouts (notes_kept l.body) (lanes_kept l.body) layout
-    → RowsLeft (notes_kept l.body) l.data_record (map (λ lanes. map (λ lane. lane.items) lanes.items) (drop l.data_record l.body.lanes.items))
+invariant-loop-data_record l = (layout : BodyLayout) → HaveRowLayouts (notes_kept l.body) (lanes_kept l.sizes l.body) layout
+    → RowsLeft (notes_kept l.body) l.data_record (drop l.data_record (lanes_kept l.sizes l.body))
     (plains_of (notes_kept l.body) (length l.sizes) (length l.body.starts.items - l.data_record) l.rest) (map odd_view l.odd.items)
     (odd_lanes (order_view l.fn.order) (notes_kept l.body) l.sizes l.body.starts.items layout)
