@@ -1,6 +1,5 @@
 pub mod FieldFacts
 pub mod SpacesFacts
-pub mod DigitFacts
 pub mod StartFacts
 pub mod HeadFacts
 pub mod LineFacts

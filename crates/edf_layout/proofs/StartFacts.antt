@@ -10,7 +10,7 @@ use Rattle.edf_fields.specs.Parts.{part}
 use Rattle.edf_fields.specs.texts.Numbers.{AreDigits}
 use Rattle.edf_fields.specs.texts.Dates.{number_at, full_year, IsDayNumber, IsDotted, NamesDottedDay, NamesDayMonth, NamesClockTime, CivilDay, civil_day}
 use Rattle.edf_header.specs.Heads.{NamesStartdate}
-use Rattle.edf_layout.proofs.DigitFacts.{weight-below, digits-same}
+use Rattle.edf_layout.proofs.plain.DigitFacts.{weight-below, digits-same}
 use Rattle.edf_layout.proofs.FieldFacts.{join-parts, nothing-behind}
 
 one-byte : (t : List ℕ) (k : ℕ) → k < length t → part t k 1 ≡ get_or t k 0 ∷ []

@@ -1,3 +1,4 @@
 pub mod NumberFacts
 pub mod HeaderFacts
 pub mod LawFacts
+pub mod DigitFacts

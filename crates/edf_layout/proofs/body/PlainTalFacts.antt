@@ -23,7 +23,7 @@ use Rattle.edf_layout.specs.body.LaneLayouts.{IsLaidTal, is_plain_duration, unle
 use Rattle.edf_layout.specs.PlainLaws.{is_plain_onset}
 use Rattle.edf_layout.specs.body.PlainOrders.{last_digits, plain_time, plain_onset, plain_duration, plain_tal}
 use Rattle.edf_layout.specs.body.PlainBodyLaws.{CanStand, OnePlainTal}
-use Rattle.edf_layout.proofs.DigitFacts.{digits-tail, digit-head}
+use Rattle.edf_layout.proofs.plain.DigitFacts.{digits-tail, digit-head}
 use Rattle.edf_layout.proofs.body.LaneFacts.{tal-same}
 use Rattle.edf_layout.proofs.plain.NumberFacts.{spread}
 use Rattle.edf_layout.proofs.plain.LawFacts.{no-dot, digit-no-dot}

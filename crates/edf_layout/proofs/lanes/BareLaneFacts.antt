@@ -1,5 +1,5 @@
 -- A bare lane has one layout, and is told by its first TAL.
-use Rattle.std.proofs.Common.{◌≡◌, ◌↔◌, ℕ, zero, suc, ℤ, ◌-◌, ◌<◌, ◌^◌, ◌==◌, Bool, true, false, not, IsTrue, List, [], ◌∷◌, ◌++◌, map, drop, unsigned_abs, Option, None, Some, Result, Ok, Err, IfOk, refl, ap, ◌∙◌, sym, subst}
+use Rattle.std.proofs.Common.{◌≡◌, ◌↔◌, ℕ, zero, suc, ℤ, ◌-◌, ◌<◌, ◌≤◌, ◌⊎◌, ◌^◌, ◌==◌, Bool, true, false, not, IsTrue, List, [], ◌∷◌, ◌++◌, map, drop, unsigned_abs, Option, None, Some, Result, Ok, Err, IfOk, refl, ap, ◌∙◌, sym, subst}
 use Rattle.std.specs.Option.{is_some, option_map, option_map_or}
 use Rattle.std.proofs.lemmas.List.Elements.{All-nil, All-cons}
 use Rattle.std.proofs.lemmas.Str.{IsUtf8-nil}
@@ -13,7 +13,6 @@ use Rattle.edf_tal.specs.Reading.{are_zeros, Item, items_of}
 use Rattle.edf_tal.specs.Tals.{TalValue, IsText}
 use Rattle.edf_tal.specs.Timekeeping.{IsTimeAlone, time_tal}
 use Rattle.edf_tal.proofs.ForCallers.{lane-read, lane-spelled}
-use Rattle.edf_tal.proofs.TextFacts.{bytes_of_text}
 use Rattle.edf_layout.specs.PlainLaws.{is_plain_onset}
 use Rattle.edf_layout.specs.body.BodyLayouts.{PlacedTal}
 use Rattle.edf_layout.specs.body.LaneLayouts.{TalLayout, IsLaidTal, IsLaidLane, is_plain_duration, unless_plain}
@@ -32,7 +31,7 @@ use Rattle.edf_layout.proofs.lanes.OddRowFacts.{lane-laid, odd-none}
 
 -- the TAL that keeps the time can stand in a lane
 stands : (start : ℤ) → unsigned_abs start < 10 ^ 21 → CanStand (tal_of_start start)
-stands start near = record { onset = near; duration = tt; texts = All-cons IsText [] [] (IsUtf8-nil, bytes_of_text [] refl) (All-nil IsText) }
+stands start near = record { onset = near; duration = tt; texts = All-cons IsText [] [] (IsUtf8-nil, All-nil (λ b. (32 ≤ b) ⊎ (b ≡ 9) ⊎ (b ≡ 10) ⊎ (b ≡ 13))) (All-nil IsText) }
 
 plain-layout : TalLayout
 plain-layout = record { onset = None; duration = None }

@@ -11,7 +11,7 @@ use Rattle.edf_fields.specs.texts.NumbersReading.{SpellsHeaderNumber}
 use Rattle.edf_fields.specs.texts.OnsetsReading.{without_leading_zeros, IsTimeRead, time_read}
 use Rattle.edf_layout.specs.PlainNumbers.{is_plain_unsigned}
 use Rattle.edf_layout.specs.PlainLaws.{is_plain_onset, OnePlainHeaderNumber, OnePlainWholeNumber, OnePlainOnset, OnePlainSpan}
-use Rattle.edf_layout.proofs.DigitFacts.{digits-tail, digit-head}
+use Rattle.edf_layout.proofs.plain.DigitFacts.{digits-tail, digit-head}
 use Rattle.edf_layout.proofs.FieldFacts.{length-text_of}
 use Rattle.edf_layout.proofs.plain.NumberFacts.{Fits, and-both, rejoins, plain-end, signs-alike, unsigned-same, numbers-same}
 

@@ -14,7 +14,7 @@ use Rattle.edf_fields.specs.texts.Numbers.{AreDigits, weight, has_minus, unsigne
 use Rattle.edf_fields.specs.texts.OnsetsReading.{without_trailing_zeros}
 use Rattle.edf_fields.proofs.ForCallers.{before_none, behind_none}
 use Rattle.edf_layout.specs.PlainNumbers.{is_plain_whole, is_plain_fraction, is_plain_unsigned, is_plain_number}
-use Rattle.edf_layout.proofs.DigitFacts.{digits-tail, digit-head, weight-below, split-same, digits-same}
+use Rattle.edf_layout.proofs.plain.DigitFacts.{digits-tail, digit-head, weight-below, split-same, digits-same}
 
 bool-cases : (b : Bool) → (b ≡ true) ⊎ (b ≡ false)
 bool-cases true = inl refl

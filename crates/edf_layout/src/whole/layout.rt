@@ -217,7 +217,8 @@ fn laid_out(alloc: Global, file: &WholeFile) -> Result<Report, AllocError>
     requires head { IsWhole file.now.head.front.items file.now.head.columns.items file.now.head.header }
     requires body { IsSoundBody file.now.body }
     ensures { IfOk result (λ r. (layout : BodyLayout) →
-        HaveRowLayouts (notes_kept file.now.body) (lanes_kept (sizes_of file.now.head.header) file.now.body) layout →
+        HaveRowLayouts (notes_kept file.now.body)
+        (lanes_kept (sizes_of file.now.head.header) file.now.body) layout →
         IsTextOf (layout_kept file.now.head.front.items file.now.head.columns.items file.now.head.header
         file.now.body layout) file.now.head.header r.text.items r.outcome) }
 {

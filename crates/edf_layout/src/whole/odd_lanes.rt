@@ -108,7 +108,8 @@ fn push_plain<'a>(
 ) -> Result<(), AllocError>
     requires { AreInOrder (map note_value notes.now) }
     ensures { OnOk result ((rest : List TalValue) → map laid_view laid.new.items ++
-        plainly_laid (map note_value notes.now) (keeps_now_of keeps_time (map laid_view laid.new.items)) rest ≡
+        plainly_laid (map note_value notes.now)
+        (keeps_now_of keeps_time (map laid_view laid.new.items)) rest ≡
         map laid_view laid.old.items ++ plainly_laid (map note_value notes.now)
         (keeps_now_of keeps_time (map laid_view laid.old.items))
         (plain_view (map note_value notes.now) tal ∷ rest)) }
@@ -329,7 +330,8 @@ fn push_odd_in<'a>(
     requires { AreInOrder (map note_value notes.now) }
     ensures { OnOk result ((start : ℤ) (sizes : List ℕ) (layout : RecordLayout) →
         unsigned_abs start < 10 ^ 21 → length sizes ≡ at.entry.count →
-        HaveLaneLayouts (map note_value notes.now) 0 (record_kept true start sizes at.entry.lanes.now) layout →
+        HaveLaneLayouts (map note_value notes.now) 0
+        (record_kept true start sizes at.entry.lanes.now) layout →
         map odd_view odd.new.items ≡ map odd_view odd.old.items ++ odd_in at.entry.data_record 0 layout
         (plain_record (map note_value notes.now) (map (plain_tals (map note_value notes.now)) plain.now))) }
 {
