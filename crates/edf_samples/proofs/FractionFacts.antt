@@ -1,12 +1,17 @@
 -- The order of fractions with positive denominators.
-use Rattle.std.proofs.Common.{◌+ℤ◌, zero, suc, ◌≡◌, true, false, ℕ, ◌<◌, ◌≤◌, ◌+◌, ◌*◌, ℤ, pos, ◌*ℤ◌, ◌<ℤ◌, arith, sym}
+use Rattle.std.proofs.Common.{◌+ℤ◌, zero, suc, ◌≡◌, true, false, ℕ, ◌<◌, ◌≤◌, ◌+◌, ◌*◌, ℤ, pos, ◌*ℤ◌, ◌<ℤ◌, ◌&&◌, arith, ap, ◌∙◌, sym}
+use Rattle.std.specs.Bool.{Decides}
+use Rattle.std.specs.Ordering.{int_eq}
+use Rattle.std.proofs.lemmas.Bool.Decides.{Decides-int_eq, same_from_decides}
 use Rattle.std.proofs.lemmas.Int.{ints, by_lt_z}
 use Rattle.std.proofs.Math.Nat.{lt_of_mul-lt-mul_right, mul-lt-mul_of_pos_right, mul-le-mul_right}
 use borrow.Author.Differences.{up, down, true_is_lt, false_is_lt}
 use Rattle.edf_stream.specs.declared.times.instant.Instant.{Instant}
 use Rattle.edf_stream.specs.times.Instants.{IsSame}
 use Rattle.edf_stream.specs.times.InstantOrder.{IsNotBefore}
+use Rattle.edf_samples.specs.declared.stretch.Stretch.{Stretch}
 use Rattle.edf_samples.specs.InstantOrder.{IsBefore, is_before}
+use Rattle.edf_samples.specs.Stretches.{IsPart, are_on_one_grid}
 
 pub self_above : (t : Instant) → IsNotBefore t t
 self_above t = omega (arith, ints)
@@ -82,6 +87,23 @@ before_over a b n pn h =
     let e : up a + down b < up b + down a = omega (arith, ints) in
     let f : (up a + down b) * n < (up b + down a) * n = mul-lt-mul_of_pos_right e pn in
     omega (arith, ints)
+
+same-over : (a b : ℤ) (n : ℕ) → 0 < n → a *ℤ pos n ≡ b *ℤ pos n → a ≡ b
+same-over a b n pn e =
+    by_lt_z a b (λ lt. let f = before_over a b n pn lt in absurd (omega (arith, ints)))
+    (λ ge. by_lt_z b a (λ lt. let f = before_over b a n pn lt in absurd (omega (arith, ints))) (λ le. omega (arith, ints)))
+
+-- over one denominator two numerators are the same where their products are
+is-same-over : (a b : ℤ) (n m : ℕ) → 0 < n → n ≡ m → int_eq a b ≡ int_eq (a *ℤ pos m) (b *ℤ pos n)
+is-same-over a b n m pn e = same_from_decides (int_eq a b) (int_eq (a *ℤ pos n) (b *ℤ pos n)) decided (Decides-int_eq (a *ℤ pos n) (b *ℤ pos n)) ∙ ap (λ k. int_eq (a *ℤ pos k) (b *ℤ pos n)) e
+  where
+    decided : Decides (int_eq a b) (a *ℤ pos n ≡ b *ℤ pos n)
+    decided = (λ t. ap (λ z. z *ℤ pos n) ((Decides-int_eq a b).0 t), λ h. (Decides-int_eq a b).1 (same-over a b n pn h))
+
+pub same_grid : (x y : Stretch) → IsPart x → x.den ≡ y.den → (int_eq x.num y.num && int_eq x.step y.step) ≡ are_on_one_grid x y
+same_grid x y part e =
+    let px : 0 < x.den = omega (arith, part) in
+    ap (λ b. b && int_eq x.step y.step) (is-same-over x.num y.num x.den y.den px e) ∙ ap (λ b. int_eq (x.num *ℤ pos y.den) (y.num *ℤ pos x.den) && b) (is-same-over x.step y.step x.den y.den px e)
 
 pub by_before : {P : Type 0} (p q : Instant) → (IsBefore p q → P) → (IsNotBefore p q → P) → P
 by_before p q f g = by_lt_z (p.num *ℤ pos q.den) (q.num *ℤ pos p.den) f g

@@ -134,12 +134,33 @@ pub(crate) fn is_same(num: i128, den: u32, other_num: i128, other_den: u32) -> b
     product(num, other_den) == product(other_num, den)
 }
 
-/// Whether the samples of two stretches stand at the same instants, one by one.
+/// Whether the first samples of two stretches stand at the same numerator.
+fn is_one_num(x: Stretch, y: Stretch) -> bool
+    requires x { IsPart x }
+    requires y { IsPart y }
+    ensures { result ≡ int_eq x.entry.num y.entry.num }
+{
+    x.num == y.num
+}
+
+/// Whether the samples of two stretches stand equally far apart, times their denominators.
+fn is_one_step(x: Stretch, y: Stretch) -> bool
+    requires x { IsPart x }
+    requires y { IsPart y }
+    ensures { result ≡ int_eq x.entry.step y.entry.step }
+{
+    x.step == y.step
+}
+
+/// Whether the samples of two stretches stand at the same instants, one by one. Over one denominator no product is made.
 pub(crate) fn is_one_grid(x: Stretch, y: Stretch) -> bool
     requires x { IsPart x }
     requires y { IsPart y }
     ensures { result ≡ are_on_one_grid x.entry y.entry }
 {
+    if x.den == y.den {
+        return is_one_num(x, y) && is_one_step(x, y);
+    }
     is_same(x.num, x.den, y.num, y.den) && is_same(x.step, x.den, y.step, y.den)
 }
 

@@ -1,4 +1,4 @@
-use Rattle.std.proofs.Common.{◌<◌, refl, arith}
+use Rattle.std.proofs.Common.{◌<◌, arith}
 use Rattle.edf_samples.proofs.rates.StrideFacts.{are_strides, strides_of_double, strides_of_half}
 use Rattle.edf_samples.proofs.counts.strides.strides_by.Goals as goal
 
