@@ -86,8 +86,15 @@ fn is_plain_duration(text: &[u8]) -> bool
     }
 }
 
+/// Whether what stands before the first text of a lane's first TAL is an onset that is spelled plainly.
+pub(crate) fn has_plain_onset(lane: &[u8]) -> bool
+    ensures { result ≡ is_onset (until_byte 20 lane.now) }
+{
+    is_plain_onset(until(lane, 20))
+}
+
 /// How the first TAL of a lane is spelled.
-pub(crate) fn spelling_at(lane: &[u8]) -> Spelling<'_>
+fn spelling_at(lane: &[u8]) -> Spelling<'_>
     ensures { spelling_view result ≡ layout_at lane.entry.now }
 {
     let head = until(lane, 20);

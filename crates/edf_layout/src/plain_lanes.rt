@@ -33,11 +33,11 @@ pub enum PlainTal {
 
 /// A lane that a plain order fills.
 #[derive(Debug, Drop)]
-pub struct PlainLane {
+pub struct PlainLane<'a> {
     /// How many bytes are free behind its TALs.
     pub free: usize,
     /// Where its data record starts, if its first TAL keeps the time: in picoseconds after the start of the file.
-    pub start: Option<i128>,
+    pub start: Option<&'a i128>,
     /// The annotations that its other TALs have, one each: their numbers among all in order.
     pub notes: Vec<usize>,
 }
@@ -66,7 +66,7 @@ fn is_full(full: Option<usize>, need: usize) -> bool
 /// The first lane from a place on that has so many bytes free, before another place; or that other place. Of each block
 /// that was looked through as a whole it is noted that it has no such lane.
 fn room_or(
-    lanes: &[PlainLane],
+    lanes: &[PlainLane<'_>],
     full: &mut [Option<usize>],
     from: usize,
     to: usize,
@@ -97,7 +97,7 @@ fn room_or(
 
 /// The first lane from a place on that has so many bytes free, or else the first of those before.
 fn room_from(
-    lanes: &[PlainLane],
+    lanes: &[PlainLane<'_>],
     full: &mut [Option<usize>],
     at: usize,
     need: usize,
@@ -120,7 +120,7 @@ fn room_from(
 /// Puts the annotation of this number, whose TAL takes so many bytes, into the first lane from a place on that has room
 /// for it, and behind the last lane from the first one on; nowhere, where no lane has room.
 fn put_from(
-    lanes: &mut [PlainLane],
+    lanes: &mut [PlainLane<'_>],
     full: &mut [Option<usize>],
     at: usize,
     need: usize,
@@ -144,12 +144,12 @@ fn put_from(
 }
 
 /// A lane of this size that holds the TAL that keeps the time of a data record with this start.
-fn timed_lane(alloc: Global, size: usize, start: i128) -> Result<PlainLane, AllocError>
+fn timed_lane(alloc: Global, size: usize, start: &i128) -> Result<PlainLane<'_>, AllocError>
     ensures { IfOk result (λ lane. (notes : List NoteValue) →
-        lane_view notes lane ≡ with_tal (tal_of_start start) (bare_lane size)) }
+        lane_view notes lane ≡ with_tal (tal_of_start start.entry.now) (bare_lane size)) }
 {
     Ok(PlainLane {
-        free: size.saturating_sub(start_bytes(alloc, start)?),
+        free: size.saturating_sub(start_bytes(alloc, *start)?),
         start: Some(start),
         // most lanes get no annotation, and take no memory of their own
         notes: Vec::new(alloc),
@@ -157,7 +157,11 @@ fn timed_lane(alloc: Global, size: usize, start: i128) -> Result<PlainLane, Allo
 }
 
 /// Puts lanes of these sizes with nothing in them behind the lanes.
-fn push_empty(lanes: &mut Vec<PlainLane>, alloc: Global, sizes: &[usize]) -> Result<(), AllocError>
+fn push_empty(
+    lanes: &mut Vec<PlainLane<'_>>,
+    alloc: Global,
+    sizes: &[usize],
+) -> Result<(), AllocError>
     ensures { OnOk result ((notes : List NoteValue) → map (lane_view notes) lanes.new.items ≡
         map (lane_view notes) lanes.old.items ++ map bare_lane sizes.now) }
 {
@@ -172,14 +176,14 @@ fn push_empty(lanes: &mut Vec<PlainLane>, alloc: Global, sizes: &[usize]) -> Res
 }
 
 /// Puts the lanes of a data record with this start behind the lanes, before any annotation stands there.
-fn push_bare(
-    lanes: &mut Vec<PlainLane>,
+fn push_bare<'a>(
+    lanes: &mut Vec<PlainLane<'a>>,
     alloc: Global,
     sizes: &[usize],
-    start: i128,
+    start: &'a i128,
 ) -> Result<(), AllocError>
     ensures { OnOk result ((notes : List NoteValue) → map (lane_view notes) lanes.new.items ≡
-        map (lane_view notes) lanes.old.items ++ bare_record sizes.now start) }
+        map (lane_view notes) lanes.old.items ++ bare_record sizes.now start.entry.now) }
 {
     if let [size, rest @ ..] = sizes {
         lanes.push(timed_lane(alloc, *size, start)?)?;
@@ -189,13 +193,17 @@ fn push_bare(
 }
 
 /// The lanes of data records with these starts, before any annotation stands there.
-fn bare_lanes(alloc: Global, sizes: &[usize], starts: &[i128]) -> Result<Vec<PlainLane>, AllocError>
+fn bare_lanes<'a>(
+    alloc: Global,
+    sizes: &[usize],
+    starts: &'a [i128],
+) -> Result<Vec<PlainLane<'a>>, AllocError>
     ensures { IfOk result (λ lanes. (notes : List NoteValue) → map (lane_view notes) lanes.items ≡
-        flat_map (bare_record sizes.now) starts.now) }
+        flat_map (bare_record sizes.now) starts.entry.now) }
 {
     let mut lanes = Vec::new(alloc);
     for start in starts {
-        push_bare(&mut lanes, alloc, sizes, *start)?;
+        push_bare(&mut lanes, alloc, sizes, start)?;
     }
     Ok(lanes)
 }
@@ -229,18 +237,18 @@ fn record_for(order: Order, starts: &[i128], number: usize, onset: i128) -> usiz
 /// annotations that are in order.
 ///
 /// The error is want of memory.
-pub fn filled_lanes(
+pub fn filled_lanes<'a>(
     alloc: Global,
     order: Order,
     notes: &[Note],
     sizes: &[usize],
-    starts: &[i128],
-) -> Result<Vec<PlainLane>, AllocError>
+    starts: &'a [i128],
+) -> Result<Vec<PlainLane<'a>>, AllocError>
     requires some { 0 < length starts.now }
     requires rising { AreRising starts.now }
     ensures { IfOk result (λ lanes. map (lane_view (map note_value notes.now)) lanes.items ≡
-        filled (order_view order) starts.now (length sizes.now) 0 (map note_value notes.now)
-        (flat_map (bare_record sizes.now) starts.now)) }
+        filled (order_view order) starts.entry.now (length sizes.now) 0 (map note_value notes.now)
+        (flat_map (bare_record sizes.now) starts.entry.now)) }
 {
     let mut lanes = bare_lanes(alloc, sizes, starts)?;
     let mut full = unknown_blocks(alloc, lanes.len())?;

@@ -10,6 +10,9 @@ use std::alloc::{AllocError, Global};
 /// A second in picoseconds.
 const SECOND: u128 = 1_000_000_000_000;
 
+/// The same in 64 bits, by which processors divide faster.
+const SHORT_SECOND: u64 = 1_000_000_000_000;
+
 /// An annotation of a file. Annotations are ordered by their onset, then by their duration, none before any, then by
 /// the bytes of their texts.
 #[derive(Debug, Clone, Copy, PartialEq, Eq, PartialOrd, Ord)]
@@ -128,14 +131,15 @@ fn digit_count(number: u64) -> usize
     count
 }
 
-/// The seconds of so many picoseconds, where these are whole seconds.
+/// The seconds of so many picoseconds, where these are whole seconds; none of 2^64 picoseconds, some 213 days, and more.
 fn whole_seconds(ps: u128) -> Option<u64>
     ensures { IfSome result (λ seconds. (seconds ≡ ps / 10 ^ 12) × (ps % 10 ^ 12 ≡ 0)) }
 {
-    if ps % SECOND != 0 {
+    let short = u64::try_from(ps).ok()?;
+    if short % SHORT_SECOND != 0 {
         return None;
     }
-    u64::try_from(ps / SECOND).ok()
+    Some(short / SHORT_SECOND)
 }
 
 /// How many bytes the TAL takes that only keeps the time of a data record with this start, where it is spelled plainly.

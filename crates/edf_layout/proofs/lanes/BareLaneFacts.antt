@@ -1,6 +1,6 @@
 -- A bare lane has one layout, and is told by its first TAL.
-use Rattle.std.proofs.Common.{◌≡◌, ◌↔◌, ℕ, zero, suc, ℤ, ◌-◌, ◌<◌, ◌≤◌, ◌⊎◌, ◌^◌, ◌==◌, Bool, true, false, not, IsTrue, List, [], ◌∷◌, ◌++◌, map, drop, unsigned_abs, Option, None, Some, Result, Ok, Err, IfOk, refl, ap, ◌∙◌, sym, subst}
-use Rattle.std.specs.Option.{is_some, option_map, option_map_or}
+use Rattle.std.proofs.Common.{◌≡◌, ◌↔◌, ℕ, zero, suc, ℤ, ◌-◌, ◌<◌, ◌≤◌, ◌⊎◌, ◌^◌, ◌==◌, Bool, true, false, IsTrue, List, [], ◌∷◌, ◌++◌, map, drop, unsigned_abs, Option, None, Some, Result, Ok, Err, IfOk, refl, ap, ◌∙◌, sym, subst}
+use Rattle.std.specs.Option.{is_some, option_map_or}
 use Rattle.std.proofs.lemmas.List.Elements.{All-nil, All-cons}
 use Rattle.std.proofs.lemmas.Str.{IsUtf8-nil}
 use Rattle.std.proofs.lemmas.List.{append-nil}
@@ -9,14 +9,14 @@ use Rattle.edf_stream.specs.annotation.Notes.{NoteValue}
 use Rattle.edf_stream.specs.annotation.NotesReading.{notes_of_items, notes_of_lanes, notes_in}
 use Rattle.edf_stream.specs.records.Records.{annotation_lanes}
 use Rattle.edf_layout.specs.declared.whole.kept_lane.KeptLane.{KeptLane}
-use Rattle.edf_tal.specs.Reading.{are_zeros, Item, items_of}
-use Rattle.edf_tal.specs.Tals.{TalValue, IsText}
+use Rattle.edf_tal.specs.Reading.{are_zeros, until, Item, items_of}
+use Rattle.edf_tal.specs.Tals.{TalValue, SpellsTal, IsText}
 use Rattle.edf_tal.specs.Timekeeping.{IsTimeAlone, time_tal}
 use Rattle.edf_tal.proofs.ForCallers.{lane-read, lane-spelled}
 use Rattle.edf_layout.specs.PlainLaws.{is_plain_onset}
 use Rattle.edf_layout.specs.body.BodyLayouts.{PlacedTal}
 use Rattle.edf_layout.specs.body.LaneLayouts.{TalLayout, IsLaidTal, IsLaidLane, is_plain_duration, unless_plain}
-use Rattle.edf_layout.specs.body.LaneReading.{layout_at, IsLaidAs, contents_by}
+use Rattle.edf_layout.specs.body.LaneReading.{IsLaidAs, contents_by}
 use Rattle.edf_layout.specs.body.PlainBodyLaws.{CanStand}
 use Rattle.edf_layout.specs.body.PlainOrders.{plain_tal, tal_bytes, tal_of_start}
 use Rattle.edf_layout.specs.whole.KeptLanes.{IsBare, zeros, bare_bytes, record_kept, bare_layout}
@@ -26,7 +26,7 @@ use Rattle.edf_layout.proofs.body.ContentFacts.{cons-first, not-nil}
 use Rattle.edf_layout.proofs.body.LaneFacts.{unlaid}
 use Rattle.edf_layout.proofs.body.LayoutFacts.{spelled_of, items-tell, lane-layout}
 use Rattle.edf_layout.proofs.body.PlainTalFacts.{tal-spelled, one_plain_tal}
-use Rattle.edf_layout.proofs.lanes.LaneReadFacts.{first-read}
+use Rattle.edf_layout.proofs.lanes.LaneReadFacts.{head-read}
 use Rattle.edf_layout.proofs.lanes.OddRowFacts.{lane-laid, odd-none}
 
 -- the TAL that keeps the time can stand in a lane
@@ -38,45 +38,36 @@ plain-layout = record { onset = None; duration = None }
 
 -- ---- whether a lane is bare
 
-alone-bare : (lane : List ℕ) (start : ℤ) → unsigned_abs start < 10 ^ 21 → IsTimeAlone lane start → (layout_at lane).onset ≡ None → IsBare true start lane
+-- what stands before its first text is the onset
+onset-alone : (lane bytes rest : List ℕ) (start : ℤ) → (s : SpellsTal bytes (tal_of_start start)) → lane ≡ bytes ++ 0 ∷ rest → until 20 lane ≡ s.onset
+onset-alone lane bytes rest start s whole =
+    head-read lane bytes rest (tal_of_start start) s whole ∙ ap (λ d. s.onset ++ d) s.duration_is ∙ append-nil s.onset
+
+alone-bare : (lane : List ℕ) (start : ℤ) → unsigned_abs start < 10 ^ 21 → IsTimeAlone lane start → is_plain_onset (until 20 lane) ≡ true → IsBare true start lane
 unfolding plain-layout
 alone-bare lane start near (bytes, rest, s, whole, none) plain =
     let tal : TalValue = tal_of_start start in
-    let layout : TalLayout = record { onset = unless_plain (is_plain_onset s.onset) s.onset; duration = unless_plain (is_plain_duration s.duration) s.duration } in
-    let laid : IsLaidTal bytes tal layout = record { spelled = s; onset = refl; duration = refl } in
-    let read = first-read lane bytes rest tal layout laid whole in
-    let onset : None ≡ layout.onset = sym plain ∙ ap (λ (l : TalLayout). l.onset) read.0 in
-    let duration : None ≡ layout.duration = ap (λ d. unless_plain (is_plain_duration d) d) (sym s.duration_is) in
+    let own : is_plain_onset s.onset ≡ true = ap is_plain_onset (sym (onset-alone lane bytes rest start s whole)) ∙ plain in
+    let onset : None ≡ unless_plain (is_plain_onset s.onset) s.onset = sym (ap (λ b. unless_plain b s.onset) own) in
+    let duration : None ≡ unless_plain (is_plain_duration s.duration) s.duration = ap (λ d. unless_plain (is_plain_duration d) d) (sym s.duration_is) in
     let plainly : IsLaidTal bytes tal plain-layout = record { spelled = s; onset = onset; duration = duration } in
     (rest, whole ∙ ap (λ b. b ++ 0 ∷ rest) ((one_plain_tal tal (stands start near) bytes).0 plainly), none)
 
-bare-alone : (lane : List ℕ) (start : ℤ) → unsigned_abs start < 10 ^ 21 → IsBare true start lane → IsTimeAlone lane start × ((layout_at lane).onset ≡ None)
+bare-alone : (lane : List ℕ) (start : ℤ) → unsigned_abs start < 10 ^ 21 → IsBare true start lane → IsTimeAlone lane start × (is_plain_onset (until 20 lane) ≡ true)
 unfolding plain-layout
 bare-alone lane start near (rest, whole, none) =
     let tal : TalValue = tal_of_start start in
     let laid : IsLaidTal (plain_tal tal) tal plain-layout = tal-spelled tal (stands start near) in
-    let read = first-read lane (plain_tal tal) rest tal plain-layout laid whole in
-    ((plain_tal tal, rest, laid.spelled, whole, none), ap (λ (l : TalLayout). l.onset) read.0)
+    let s = laid.spelled in
+    ((plain_tal tal, rest, s, whole, none), ap is_plain_onset (onset-alone lane (plain_tal tal) rest start s whole) ∙ is-plain (is_plain_onset s.onset) s.onset laid.onset)
+  where
+    is-plain : (b : Bool) (t : List ℕ) → None ≡ unless_plain b t → b ≡ true
+    is-plain true t e = refl
+    is-plain false t e = absurd (let z : None ≡ Some t = e in cc)
 
 -- by the start that is read, and how it is spelled
-pub alone_told : {X : Type 0} (f : X → List ℕ) (lane : List ℕ) (start : ℤ) (spelled : Option X) (b : Bool) → unsigned_abs start < 10 ^ 21 → IsTimeAlone lane start
-    → option_map f spelled ≡ (layout_at lane).onset → is_some spelled ≡ not b → IsTrue b ↔ IsBare true start lane
-alone_told f lane start None b near alone onset is =
-    let plain : b ≡ true = not-false b is in
-    (λ h. alone-bare lane start near alone (sym onset), λ bare. plain)
-  where
-    not-false : (b : Bool) → false ≡ not b → b ≡ true
-    not-false true e = refl
-    not-false false e = absurd (let z : false ≡ true = e in cc)
-alone_told f lane start (Some x) b near alone onset is =
-    let odd : b ≡ false = not-true b is in (
-      λ h. absurd (let z : true ≡ false = sym h ∙ odd in cc),
-      λ bare. absurd (let z : Some (f x) ≡ None = onset ∙ (bare-alone lane start near bare).1 in cc),
-    )
-  where
-    not-true : (b : Bool) → true ≡ not b → b ≡ false
-    not-true true e = absurd (let z : true ≡ false = e in cc)
-    not-true false e = refl
+pub alone_told : (lane : List ℕ) (start : ℤ) (b : Bool) → unsigned_abs start < 10 ^ 21 → IsTimeAlone lane start → b ≡ is_plain_onset (until 20 lane) → IsTrue b ↔ IsBare true start lane
+alone_told lane start b near alone is = (λ h. alone-bare lane start near alone (sym is ∙ h), λ bare. is ∙ (bare-alone lane start near bare).1)
 
 pub other_told : (lane : List ℕ) (start other : ℤ) → unsigned_abs start < 10 ^ 21 → IsTimeAlone lane other → (other ≡ start → ⊥) → IsTrue false ↔ IsBare true start lane
 other_told lane start other near alone apart = (

@@ -6,7 +6,7 @@ use Rattle.std.proofs.lemmas.Bool.Decides.{nat_tests}
 use Rattle.std.proofs.lemmas.List.{append-nil}
 use Rattle.edf_fields.specs.texts.Onsets.{SpellsOnset}
 use Rattle.edf_tal.specs.Reading.{until, behind, ended}
-use Rattle.edf_tal.specs.Tals.{TalValue, SpellsDuration}
+use Rattle.edf_tal.specs.Tals.{TalValue, SpellsTal, SpellsDuration}
 use Rattle.edf_layout.specs.PlainLaws.{is_plain_onset}
 use Rattle.edf_layout.specs.body.LaneLayouts.{TalLayout, IsLaidTal, is_plain_duration, unless_plain}
 use Rattle.edf_layout.specs.body.LaneReading.{onset_at, duration_at, layout_at}
@@ -55,15 +55,22 @@ onset-first o d v None h k =
 onset-first o d v (Some w) h (span, is, time, value) =
     ap (λ x. until 21 (o ++ x)) is ∙ until-there 21 o span (onset-lacks 21 o v (omega arith) h)
 
+-- what stands before the first byte 20
+pub head-read : (lane bytes rest : List ℕ) (tal : TalValue) → (s : SpellsTal bytes tal) → lane ≡ bytes ++ 0 ∷ rest → until 20 lane ≡ s.onset ++ s.duration
+head-read lane bytes rest tal s whole =
+    let o = s.onset in
+    let d = s.duration in
+    let times : Lacks 20 (o ++ d) = lacks-append 20 o d (onset-lacks 20 o tal.onset (omega arith) s.onset_is) (duration-lacks 20 d tal.duration (omega arith) s.duration_is) in
+    let flat : lane ≡ (o ++ d) ++ 20 ∷ (ended tal.texts ++ 0 ∷ rest) = whole ∙ ap (λ b. b ++ 0 ∷ rest) s.whole ∙ append_assoc (o ++ d) (20 ∷ ended tal.texts) (0 ∷ rest) in
+    ap (until 20) flat ∙ until-there 20 (o ++ d) (ended tal.texts ++ 0 ∷ rest) times
+
 -- what is read of a lane is the layout of its first TAL
 pub first-read : (lane bytes rest : List ℕ) (tal : TalValue) (layout : TalLayout) → IsLaidTal bytes tal layout → lane ≡ bytes ++ 0 ∷ rest → (layout_at lane ≡ layout) × (behind 0 lane ≡ rest)
 first-read lane bytes rest tal layout laid whole =
     let s = laid.spelled in
     let o = s.onset in
     let d = s.duration in
-    let times : Lacks 20 (o ++ d) = lacks-append 20 o d (onset-lacks 20 o tal.onset (omega arith) s.onset_is) (duration-lacks 20 d tal.duration (omega arith) s.duration_is) in
-    let flat : lane ≡ (o ++ d) ++ 20 ∷ (ended tal.texts ++ 0 ∷ rest) = whole ∙ ap (λ b. b ++ 0 ∷ rest) s.whole ∙ append_assoc (o ++ d) (20 ∷ ended tal.texts) (0 ∷ rest) in
-    let head : until 20 lane ≡ o ++ d = ap (until 20) flat ∙ until-there 20 (o ++ d) (ended tal.texts ++ 0 ∷ rest) times in
+    let head : until 20 lane ≡ o ++ d = head-read lane bytes rest tal s whole in
     let onset : onset_at lane ≡ o = ap (until 21) head ∙ onset-first o d tal.onset tal.duration s.onset_is s.duration_is in
     let duration : duration_at lane ≡ d = ap (λ x. drop (length x) (until 20 lane)) onset ∙ ap (drop (length o)) head ∙ drop-seam o d in
     let make : Option (List ℕ) → Option (List ℕ) → TalLayout = λ a b. record { onset = a; duration = b } in (

@@ -1,11 +1,11 @@
 -- The lanes of a plain order are laid out, and compared one by one with those of a file.
-use Rattle.std.proofs.Common.{◌≡◌, ℕ, ℤ, Bool, true, false, cond, zero, suc, ◌==◌, ◌+◌, ◌-◌, ◌<◌, ◌≤◌, List, [], ◌∷◌, ◌++◌, length, get_or, take, drop, map, min, arith, refl, ap, ◌∙◌, sym, subst, append_assoc}
+use Rattle.std.proofs.Common.{◌≡◌, ℕ, ℤ, Bool, true, false, cond, zero, suc, ◌==◌, ◌+◌, ◌-◌, ◌*◌, ◌<◌, ◌≤◌, List, [], ◌∷◌, ◌++◌, length, get_or, take, drop, map, arith, refl, ap, ◌∙◌, sym, subst, append_assoc}
 use Rattle.std.specs.List.{flat_map}
 use Rattle.std.specs.Str.{bytes_eq}
 use Rattle.std.proofs.Math.Seq.{drop-nil, drop-cons}
 use Rattle.std.proofs.lemmas.Bool.Decides.{nat_tests}
 use Rattle.std.proofs.lemmas.Slice.Eq.{bytes_eq-Decides}
-use Rattle.std.proofs.lemmas.List.{append-nil, drop_all, take-map, drop-map, drop-drop, take_min, drop_min}
+use Rattle.std.proofs.lemmas.List.{append-nil, drop_all, take-map, drop-map, drop-drop}
 use Rattle.edf_tal.specs.Tals.{TalValue}
 use Rattle.edf_stream.specs.annotation.Notes.{NoteValue}
 use Rattle.edf_layout.specs.body.BodyLayouts.{PlacedTal, RecordLayout, BodyLayout, content_of, timekeeping_of, lane_contents}
@@ -231,21 +231,21 @@ one-row-less notes k width n lanes rows here plain odd after whole is put l = go
         }
 
 -- the same by the plain lanes as the code holds them
-pub rows-step : (notes : List NoteValue) (k width count mid : ℕ) (rows : List (List (List ℕ))) (lanes : List (List ℕ)) (rest here behind : List PlainLane)
-    (odd after whole : List OddLane) → k < length rows → length rows ≡ count → lanes ≡ get_or rows k lanes
-    → mid ≡ min width (length rest) → here ≡ take mid rest → behind ≡ drop mid rest
+pub rows-step : (notes : List NoteValue) (k width count : ℕ) (rows : List (List (List ℕ))) (lanes : List (List ℕ)) (plain here : List PlainLane)
+    (odd after whole : List OddLane) → k < length rows → length rows ≡ count → lanes ≡ get_or rows k lanes → here ≡ take width (drop (k * width) plain)
     → ((layout : RecordLayout) → HaveLaneLayouts notes 0 lanes layout → after ≡ odd ++ odd_in k 0 layout (plain_record notes (map (plain_tals notes) here)))
-    → RowsLeft notes k (drop k rows) (plains_of notes width (count - k) rest) odd whole
-    → RowsLeft notes (k + 1) (drop (k + 1) rows) (plains_of notes width (count - (k + 1)) behind) after whole
-rows-step notes k width count mid rows lanes rest here behind odd after whole low long is middle front back put l =
+    → RowsLeft notes k (drop k rows) (plains_of notes width (count - k) (drop (k * width) plain)) odd whole
+    → RowsLeft notes (k + 1) (drop (k + 1) rows) (plains_of notes width (count - (k + 1)) (drop ((k + 1) * width) plain)) after whole
+rows-step notes k width count rows lanes plain here odd after whole low long is front put l =
     let less : suc k ≡ k + 1 = omega arith in
     let cut : drop k rows ≡ lanes ∷ drop (k + 1) rows =
     drop-cons rows k lanes low ∙ ap (λ z. z ∷ drop (suc k) rows) (sym is) ∙ ap (λ n. lanes ∷ drop n rows) less in
     let left : count - k ≡ suc (count - (k + 1)) = omega (arith, low, long) in
-    let taken : here ≡ take width rest = front ∙ ap (λ n. take n rest) middle ∙ take_min width rest in
-    let dropped : behind ≡ drop width rest = back ∙ ap (λ n. drop n rest) middle ∙ drop_min width rest in
+    let rest = drop (k * width) plain in
+    let product : k * width + width ≡ (k + 1) * width = omega arith in
+    let dropped : drop ((k + 1) * width) plain ≡ drop width rest = sym (drop-drop width (k * width) plain ∙ ap (λ n. drop n plain) product) in
     subst (λ ps. RowsLeft notes (k + 1) (drop (k + 1) rows) (plains_of notes width (count - (k + 1)) ps) after whole) (sym dropped)
-    (one-row-less notes k width (count - (k + 1)) lanes (drop (k + 1) rows) here rest odd after whole taken put
+    (one-row-less notes k width (count - (k + 1)) lanes (drop (k + 1) rows) here rest odd after whole front put
     (subst (λ n. RowsLeft notes k (lanes ∷ drop (k + 1) rows) (plains_of notes width n rest) odd whole) left
     (subst (λ rs. RowsLeft notes k rs (plains_of notes width (count - k) rest) odd whole) cut l)))
 

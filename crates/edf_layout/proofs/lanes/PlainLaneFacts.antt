@@ -144,16 +144,16 @@ put-none notes lanes at need tal low found is =
 
 -- and where one has
 pub put-some : (notes : List NoteValue) (lanes : List PlainLane) (at need place number : ℕ) (d after : PlainLane) → at ≤ length lanes → Some place ≡ room_from lanes at need
-    → place < length lanes → after.free ≡ (get_or lanes place d).free - need → after.start ≡ (get_or lanes place d).start → after.notes.items ≡ (get_or lanes place d).notes.items ++ number ∷ []
+    → place < length lanes → after.free ≡ (get_or lanes place d).free - need → time_in (option_map (λ s. s.now) after.start) ≡ time_in (option_map (λ s. s.now) (get_or lanes place d).start) → after.notes.items ≡ (get_or lanes place d).notes.items ++ number ∷ []
     → tal_bytes (plain_view notes (tals.Annotates number)) ≡ need
     → map (lane_view notes) (set lanes place after) ≡ put_from at (plain_view notes (tals.Annotates number)) (map (lane_view notes) lanes)
 unfolding with-at
 put-some notes lanes at need place number d after low found within free start more is =
     let tal : PlainTal = tals.Annotates number in
     let had : PlainLane = get_or lanes place d in
-    let timed : List PlainTal = time_in had.start in
+    let timed : List PlainTal = time_in (option_map (λ s. s.now) had.start) in
     let told : tals_in after ≡ tals_in had ++ tal ∷ [] =
-    ap (λ (s : Option ℤ). time_in s ++ map tals.Annotates after.notes.items) start
+    ap (λ time. time ++ map tals.Annotates after.notes.items) start
     ∙ ap (λ xs. timed ++ map tals.Annotates xs) more ∙ ap (λ xs. timed ++ xs) (map-append tals.Annotates had.notes.items (number ∷ []))
     ∙ sym (append_assoc timed (map tals.Annotates had.notes.items) (tal ∷ [])) in
     let view : PlainLane → FilledLane = lane_view notes in

@@ -1,7 +1,7 @@
 -- Lanes that a plain order fills, as the code holds them.
 use Rattle.std.specs.Prelude.{◌≡◌, ℕ, ℤ, Bool, false, ◌+◌, ◌/◌, ◌<◌, ◌≤◌, ◌≤ℤ◌, nat_le, List, [], ◌∷◌, ◌++◌, length, slice_index_or, take, drop, map, slice_get, Option, Some, None, pos}
 use Rattle.std.specs.List.{position}
-use Rattle.std.specs.Option.{option_map_or}
+use Rattle.std.specs.Option.{option_map, option_map_or}
 use Rattle.edf_tal.specs.Tals.{TalValue}
 use Rattle.edf_stream.specs.annotation.Notes.{NoteValue}
 use Rattle.edf_layout.specs.body.PlainOrders.{PlainOrder, OneByOne, ByTime, FilledLane, tal_of_note, tal_of_start}
@@ -28,7 +28,7 @@ time_in (Some start) = tals.KeepsTime start ∷ []
 
 -- the TALs of a lane: that which keeps the time, if there is one, and then one for each annotation
 abbrev pub tals_in : PlainLane → List PlainTal
-tals_in lane = time_in lane.start ++ map tals.Annotates lane.notes.items
+tals_in lane = time_in (option_map (λ start. start.now) lane.start) ++ map tals.Annotates lane.notes.items
 
 -- a lane
 abbrev pub lane_view : List NoteValue → PlainLane → FilledLane

@@ -9,7 +9,7 @@ ghost use Rattle.edf_tal.specs.Reading.{are_zeros};
 ghost use Rattle.edf_layout.specs.body.PlainOrders.{lane_sizes};
 ghost use Rattle.edf_layout.specs.whole.KeptLanes.{IsBare, own_bytes, record_kept};
 
-use crate::lane_layout::spelling_at;
+use crate::lane_layout::has_plain_onset;
 use edf_stream::FileReader;
 use edf_tal::{Tals, time_alone_apart};
 use std::alloc::{AllocError, Global};
@@ -46,7 +46,7 @@ fn keeps_time_alone(lane: &[u8], start: i128) -> bool
     if onset != start {
         return false;
     }
-    spelling_at(lane).onset.is_none()
+    has_plain_onset(lane)
 }
 
 /// Whether a lane is bare, in a data record with this start.

@@ -1,7 +1,7 @@
 //! The annotation lanes of a file that a plain order has otherwise.
 
-ghost use Rattle.std.specs.Prelude.{◌≡◌, ◌++◌, ◌∷◌, ◌==◌, ◌<◌, ◌^◌, true, false, ℕ, ℤ, List, length, map, unsigned_abs, IfOk, IsTrue, OnOk};
-ghost use Rattle.std.specs.Option.{option_map_or};
+ghost use Rattle.std.specs.Prelude.{◌≡◌, ◌*◌, take, drop, ◌++◌, ◌∷◌, ◌==◌, ◌<◌, ◌^◌, true, false, ℕ, ℤ, List, length, map, unsigned_abs, IfOk, IsTrue, OnOk};
+ghost use Rattle.std.specs.Option.{option_map, option_map_or};
 ghost use Rattle.std.specs.Str.{bytes_eq};
 ghost use Rattle.edf_stream.specs.Views.{note_value};
 ghost use Rattle.edf_stream.specs.annotation.Notes.{NoteValue};
@@ -127,14 +127,15 @@ fn push_plain<'a>(
 fn lay_start(
     alloc: Global,
     notes: &[Note],
-    start: Option<i128>,
+    start: Option<&i128>,
     keeps_time: bool,
 ) -> Result<Vec<LaidTal<'static>>, AllocError>
     requires { AreInOrder (map note_value notes.now) }
     ensures { IfOk result (λ laid. (rest : List TalValue) → map laid_view laid.items ++
         plainly_laid (map note_value notes.now) (keeps_now_of keeps_time (map laid_view laid.items)) rest ≡
         plainly_laid (map note_value notes.now) keeps_time
-        (map (plain_view (map note_value notes.now)) (time_in start) ++ rest)) }
+        (map (plain_view (map note_value notes.now))
+        (time_in (option_map (λ s. s.now) start.entry)) ++ rest)) }
 {
     let mut laid = Vec::new(alloc);
     if let Some(start) = start {
@@ -142,7 +143,7 @@ fn lay_start(
             &mut laid,
             alloc,
             notes,
-            PlainTal::KeepsTime(start),
+            PlainTal::KeepsTime(*start),
             keeps_time,
         )?;
     }
@@ -154,7 +155,7 @@ fn lay_start(
 fn lay_plain(
     alloc: Global,
     notes: &[Note],
-    plain: &PlainLane,
+    plain: &PlainLane<'_>,
     keeps_time: bool,
 ) -> Result<Vec<LaidTal<'static>>, AllocError>
     requires { AreInOrder (map note_value notes.now) }
@@ -179,7 +180,7 @@ fn lay_plain(
 fn lay_plain_at(
     alloc: Global,
     notes: &[Note],
-    plain: &[PlainLane],
+    plain: &[PlainLane<'_>],
     number: usize,
 ) -> Result<Vec<LaidTal<'static>>, AllocError>
     requires { AreInOrder (map note_value notes.now) }
@@ -268,7 +269,7 @@ fn lay<'a>(alloc: Global, notes: &[Note], lane: LaneAt<'a>) -> Result<Vec<LaidTa
 }
 
 /// Whether a lane that a plain order fills has only what a bare one has, which keeps the time or doesn't.
-fn has_no_note(plain: &PlainLane, keeps_time: bool) -> bool
+fn has_no_note(plain: &PlainLane<'_>, keeps_time: bool) -> bool
     ensures { IsTrue result → (notes : List NoteValue) →
         plainly_laid notes keeps_time (map (plain_view notes) (tals_in plain.now)) ≡ bare_layout keeps_time }
 {
@@ -276,7 +277,7 @@ fn has_no_note(plain: &PlainLane, keeps_time: bool) -> bool
 }
 
 /// Whether a plain order puts into the lane of this number of a data record only what a bare one has.
-fn are_bare(plain: &[PlainLane], number: usize) -> bool
+fn are_bare(plain: &[PlainLane<'_>], number: usize) -> bool
     ensures { IsTrue result → (notes : List NoteValue) → plainly_laid notes (number == 0)
         (map (plain_view notes) (tals_at plain.now number)) ≡ bare_layout (number == 0) }
 {
@@ -293,7 +294,7 @@ fn push_odd<'a>(
     alloc: Global,
     notes: &[Note],
     lane: LaneAt<'a>,
-    plain: &[PlainLane],
+    plain: &[PlainLane<'_>],
 ) -> Result<(), AllocError>
     requires { AreInOrder (map note_value notes.now) }
     ensures { OnOk result ((start : ℤ) (size : ℕ) (laid : List PlacedTal) → unsigned_abs start < 10 ^ 21 →
@@ -325,7 +326,7 @@ fn push_odd_in<'a>(
     alloc: Global,
     notes: &[Note],
     at: LanesAt<'a>,
-    plain: &[PlainLane],
+    plain: &[PlainLane<'_>],
 ) -> Result<(), AllocError>
     requires { AreInOrder (map note_value notes.now) }
     ensures { OnOk result ((start : ℤ) (sizes : List ℕ) (layout : RecordLayout) →
@@ -344,6 +345,19 @@ fn push_odd_in<'a>(
         push_odd(odd, alloc, notes, lane, plain)?;
     }
     Ok(())
+}
+
+/// The lanes of the data record of this number, where each has so many.
+fn lanes_in<'a, 'b>(
+    plain: &'a [PlainLane<'b>],
+    width: usize,
+    data_record: usize,
+) -> &'a [PlainLane<'b>]
+    ensures { result.now ≡ take width (drop (data_record * width) plain.entry.now) }
+{
+    let from = plain.len().min(data_record.saturating_mul(width));
+    let rest = &plain[from..];
+    &rest[..width.min(rest.len())]
 }
 
 /// The annotation lanes of a file that a plain order has otherwise, where a data record has lanes of these
@@ -369,19 +383,17 @@ pub fn odd_lanes<'a>(
         return Ok(odd);
     }
     let plain = filled_lanes(alloc, order, &body.notes, sizes, starts)?;
-    let mut rest: &[PlainLane] = &plain;
     for (data_record, lanes) in body.lanes.iter().enumerate() {
         if odd.len() > most {
             return Ok(odd);
         }
-        let (here, behind) = rest.split_at(sizes.len().min(rest.len()));
         let at = LanesAt {
             data_record,
             count: sizes.len(),
             lanes,
         };
+        let here = lanes_in(&plain, sizes.len(), data_record);
         push_odd_in(&mut odd, alloc, &body.notes, at, here)?;
-        rest = behind;
     }
     Ok(odd)
 }

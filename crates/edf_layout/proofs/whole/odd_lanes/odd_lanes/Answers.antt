@@ -1,4 +1,4 @@
-use Rattle.std.proofs.Common.{◌≡◌, ◌<◌, ◌≤◌, ◌-◌, ◌==◌, true, pos, ℤ, List, Vec, Global, length, get_or, map, arith, refl, sym, ap, ◌∙◌, subst, ◌++◌}
+use Rattle.std.proofs.Common.{◌≡◌, ◌<◌, ◌≤◌, ◌-◌, ◌*◌, take, drop, ◌==◌, true, pos, ℤ, List, Vec, Global, length, get_or, map, arith, refl, sym, ap, ◌∙◌, subst, ◌++◌}
 use Rattle.std.specs.List.{flat_map}
 use Rattle.edf_stream.specs.Views.{note_value}
 use Rattle.edf_stream.specs.declared.annotation.notes.Note.{Note}
@@ -6,7 +6,6 @@ use Rattle.edf_layout.specs.body.BodyLayouts.{RecordLayout}
 use Rattle.edf_layout.specs.body.OddLanes.{odd_in, odd_lanes}
 use Rattle.edf_layout.specs.body.PlainLanes.{order_view, lane_view}
 use Rattle.edf_layout.specs.body.PlainOrders.{plain_record, filled, bare_record}
-use Rattle.edf_layout.specs.declared.plain_lanes.PlainLane.{PlainLane}
 use Rattle.edf_layout.specs.declared.whole.kept_lane.KeptLane.{KeptLane}
 use Rattle.edf_layout.specs.declared.whole.odd_lanes.OddLane.{OddLane}
 use Rattle.edf_layout.specs.whole.FileBodies.{lanes_kept, notes_kept}
@@ -37,11 +36,13 @@ loop-data_record-init c = λ layout h.
     c.deref.ensures.value
     (subst (λ (ss : List ℤ). map (lane_view (map note_value c.deref.result.now)) c.in_ok-plain.plain.items
     ≡ filled order ss (length sizes) 0 (map note_value c.deref.result.now) (flat_map (bare_record sizes) ss)) c.deref-starts.ensures.value c.in_ok-plain.ensures) in
-    subst (λ (ps : List PlainLane). RowsLeft (notes_kept body) 0 rows (plains_of (notes_kept body) (length sizes) (length body.starts.items - 0) ps) (map odd_view c.new-odd.result.items)
-    (odd_lanes order (notes_kept body) sizes body.starts.items layout)) (sym c.deref-rest.ensures.value)
-    (subst (λ (odd : List OddLane). RowsLeft (notes_kept body) 0 rows (plains_of (notes_kept body) (length sizes) (length body.starts.items - 0) c.in_ok-plain.plain.items) (map odd_view odd)
+    let plain = c.in_ok-plain.plain.items in
+    let none : 0 ≡ 0 * length sizes = omega arith in
+    subst (λ n. RowsLeft (notes_kept body) 0 rows (plains_of (notes_kept body) (length sizes) (length body.starts.items - 0) (drop n plain)) (map odd_view c.new-odd.result.items)
+    (odd_lanes order (notes_kept body) sizes body.starts.items layout)) none
+    (subst (λ (odd : List OddLane). RowsLeft (notes_kept body) 0 rows (plains_of (notes_kept body) (length sizes) (length body.starts.items - 0) plain) (map odd_view odd)
     (odd_lanes order (notes_kept body) sizes body.starts.items layout)) (sym c.new-odd.ensures.items)
-    (rows-begun order (notes_kept body) sizes body.starts.items c.in_ok-plain.plain.items rows layout is h))
+    (rows-begun order (notes_kept body) sizes body.starts.items plain rows layout is h))
 
 pub loop-data_record-preserved : goal.loop-data_record-preserved
 loop-data_record-preserved c = λ layout h.
@@ -60,16 +61,17 @@ loop-data_record-preserved c = λ layout h.
     let near = c.requires.near k zero (omega (arith, low, alike)) in
     let put = subst (λ (xs : List Note). (layout' : RecordLayout) → HaveLaneLayouts (map note_value xs) 0 lanes layout'
     → map odd_view c.push_odd_in.new.odd.items ≡ map odd_view c.loop-data_record.odd.items
-    ++ odd_in k 0 layout' (plain_record (map note_value xs) (map (plain_tals (map note_value xs)) c.split_at.result.0.now)))
-    c.deref-in-loop-data_record-2.ensures.value
+    ++ odd_in k 0 layout' (plain_record (map note_value xs) (map (plain_tals (map note_value xs)) c.lanes_in-here.result.now)))
+    c.deref-in-loop-data_record-3.ensures.value
     (λ layout' has. c.in_ok-push_odd_in.ensures start sizes layout' near refl
-    (subst (λ (ls : List KeptLane). HaveLaneLayouts (map note_value c.deref-in-loop-data_record-2.result.now) 0 (record_kept true start sizes ls) layout') (sym c.deref-in-loop-data_record.ensures.value) has)) in
-    rows-step (notes_kept body) k (length sizes) (length starts) c.min.result (lanes_kept sizes body) lanes c.loop-data_record.rest.now c.split_at.result.0.now c.split_at.result.1.now
+    (subst (λ (ls : List KeptLane). HaveLaneLayouts (map note_value c.deref-in-loop-data_record-3.result.now) 0 (record_kept true start sizes ls) layout') (sym c.deref-in-loop-data_record.ensures.value) has)) in
+    let here = c.lanes_in-here.ensures ∙ ap (λ ls. take (length sizes) (drop (k * length sizes) ls)) c.deref-in-loop-data_record-2.ensures.value in
+    rows-step (notes_kept body) k (length sizes) (length starts) (lanes_kept sizes body) lanes c.in_ok-plain.plain.items c.lanes_in-here.result.now
     (map odd_view c.loop-data_record.odd.items) (map odd_view c.push_odd_in.new.odd.items)
     (odd_lanes (order_view c.args.order) (notes_kept body) sizes starts layout)
     (let z : k < length (lanes_kept sizes body) = omega (arith, low, long) in z) (long ∙ alike)
     (sym (row-at sizes starts body.lanes.items k zero row lanes low alike ∙ ap (λ (r : Vec KeptLane Global). record_kept true start sizes r.items) (sym there)))
-    c.min.ensures c.split_at.ensures.front c.split_at.ensures.back put (c.loop-data_record.invariant layout h)
+    here put (c.loop-data_record.invariant layout h)
 
 pub returns : goal.returns
 returns c = λ layout h.
@@ -81,5 +83,5 @@ returns c = λ layout h.
     let end : length (lanes_kept sizes body) ≤ k = omega (arith, long, least) in
     all-first c.args.most (map odd_view c.loop-data_record.odd.items) (odd_lanes (order_view c.args.order) (notes_kept body) sizes body.starts.items layout)
     (all-rows (notes_kept body) k (lanes_kept sizes body)
-    (plains_of (notes_kept body) (length sizes) (length body.starts.items - k) c.loop-data_record.rest.now)
+    (plains_of (notes_kept body) (length sizes) (length body.starts.items - k) (drop (k * length sizes) c.in_ok-plain.plain.items))
     (map odd_view c.loop-data_record.odd.items) (odd_lanes (order_view c.args.order) (notes_kept body) sizes body.starts.items layout) end (c.loop-data_record.invariant layout h))
