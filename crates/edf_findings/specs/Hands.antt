@@ -1,5 +1,5 @@
 -- The data records that are at hand while two files are compared. EDF (1992), "Data record".
-use Rattle.std.specs.Prelude.{◌≡◌, ◌==◌, ◌&&◌, not, Bool, ℕ, ◌+◌, ℤ, ◌+ℤ◌, ◌≤ℤ◌, ◌<ℤ◌, int_le, int_lt, List, [], ◌∷◌, Option, None, Some, IfSome, IsTrue, if◌then◌else◌}
+use Rattle.std.specs.Prelude.{◌≡◌, ◌==◌, ◌&&◌, not, Bool, ℕ, ◌+◌, ℤ, ◌+ℤ◌, ◌≤ℤ◌, ◌<ℤ◌, int_le, int_lt, List, [], ◌∷◌, Option, None, Some, MatchOption, ◌⊎◌, false, IsTrue, if◌then◌else◌}
 use Rattle.std.specs.Int.{saturate_signed, w128}
 use Rattle.std.specs.Option.{option_or}
 use Rattle.edf_samples.specs.declared.counts.counted.Counted.{Counted}
@@ -15,9 +15,11 @@ use Rattle.edf_findings.specs.declared.samples.found_in.FoundOf.{FoundOf}
 abbrev pub is_another : ℕ → Reader → Bool
 is_another read r = is_current r.status && not (read == r.read)
 
--- this is the data record at hand of a reader whose file is moved by so much: its number, counted from 0, and when it begins
+-- this is the data record at hand of a reader whose file is moved by so much: its number, counted from 0, and when it begins; or none
+-- is at hand
 abbrev pub IsHandOf : Reader → ℤ → Hand → Type 0
-IsHandOf r ps hand = IfSome hand.number (λ number. IsTrue (is_current r.status) × (number + 1 ≡ r.read) × (hand.from_ps ≡ begins_at r ps))
+IsHandOf r ps hand = MatchOption hand.number ((is_current r.status ≡ false) ⊎ (r.read ≡ 0)) (λ number.
+    IsTrue (is_current r.status) × (number + 1 ≡ r.read) × (hand.from_ps ≡ begins_at r ps))
 
 -- a time lies in this data record, which lasts so long and has this number
 pub record IsRecordAt (hand : Hand) (duration at : ℤ) (number : ℕ) : Type 0 where
@@ -34,7 +36,7 @@ number_at hand duration at =
 abbrev pub AreHandsOf : Reader → ℤ → Reader → ℤ → Hands → Type 0
 AreHandsOf original by export also hands = IsHandOf original by hands.original × IsHandOf export also hands.export
 
--- where samples of one kind were found, and now in the data records at hand, if more were counted
+-- where samples of one kind were found, and now in the data records at hand, if another number was counted
 abbrev pub noted_in : Hands → FoundIn → Counted → FoundIn
 noted_in hands found counted =
     if counted.count == found.count then found

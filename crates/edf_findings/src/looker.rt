@@ -1,9 +1,14 @@
 //! Who looks on while an original and its exports are checked, and takes in what they differ in.
 
-ghost use Rattle.std.specs.Prelude.{◌≡◌, ◌&&◌, ◌++◌, ◌∷◌, [], is_some, length, nat_lt, IfOk, IfSome, OnOk, None, Some, true};
+ghost use Rattle.std.specs.Prelude.{◌≡◌, ◌&&◌, ◌++◌, ◌∷◌, [], ℤ, is_some, length, nat_lt, replicate, IfOk, IfSome, OnOk, None, Some, true};
+ghost use Rattle.edf_claim.specs.KeepsReading.{IsUncut};
 ghost use Rattle.edf_heads.specs.Comparisons.{AreSorted};
 ghost use Rattle.edf_findings.specs.Found.{AreFoundBy, AreFoundIn, AreNotedAt, counted_by, shown_by};
 ghost use Rattle.edf_findings.specs.Gathered.{HaveNone, hidden_at};
+ghost use Rattle.edf_findings.specs.Hands.{nowhere_of};
+ghost use Rattle.edf_pace.specs.walk.Counting.{AreTallies};
+ghost use Rattle.edf_pace.specs.walk.Pairs.{IsFrame};
+ghost use Rattle.edf_pace.specs.walk.Watching.{HasSeenIn, TwoFiles};
 
 use crate::findings::Findings;
 use crate::notes::both::Notes;
@@ -86,6 +91,7 @@ impl Looker {
         ensures counts { self.new.counts ≡ self.old.counts }
         ensures parts { self.new.parts ≡ self.old.parts }
         ensures part { self.new.part ≡ self.old.part }
+        ensures whole { self.new.is_whole ≡ self.old.is_whole }
         ensures notes { OnOk result (self.new.notes.hidden.items ≡
             self.old.notes.hidden.items ++ hidden_at self.old claim.now original.now) }
     {
@@ -111,6 +117,7 @@ impl Looker {
         ensures parts { self.new.parts ≡ self.old.parts }
         ensures notes { OnOk result (self.new.notes.hidden.items ≡ self.old.notes.hidden.items ++
             hidden_at self.old ((frame.entry.turn).setting.claim).now original.now) }
+        ensures whole { self.new.is_whole ≡ self.old.is_whole }
         ensures noted { OnOk result (AreNotedAt original.now export.now frame.entry
             self.old.counts.tallies.items self.old.part self.new.part) }
     {
@@ -123,6 +130,47 @@ impl Looker {
         let hands = self.part.see(here, export, frame, within);
         self.part.note(&self.counts.tallies, &hands);
         Ok(())
+    }
+
+    /// Begins with an export: nothing was counted or noted yet of the channels of this frame.
+    ///
+    /// The error is want of memory.
+    fn begin_with(&mut self, frame: Frame<'_>) -> Result<(), AllocError>
+        ensures each { OnOk result (length self.new.counts.tallies.items ≡ length (frame.entry.pairs).now) }
+        ensures none { OnOk result ((files : TwoFiles) (t : ℤ) →
+            AreTallies self.new.counts.tallies.items frame.entry files t t) }
+        ensures nowhere { OnOk result (self.new.part.found.items ≡
+            replicate (length (frame.entry.pairs).now) nowhere_of) }
+        ensures parts { self.new.parts ≡ self.old.parts }
+    {
+        self.counts = Counts::new(self.alloc, frame)?;
+        self.part = PartSoFar::new(self.alloc, frame.pairs.len())?;
+        Ok(())
+    }
+
+    /// Counts what both files show between two times, and notes then in which data records it was found.
+    fn look_at(
+        &mut self,
+        original: &FileReader,
+        export: &FileReader,
+        frame: Frame<'_>,
+        within: Window,
+    )
+        requires frame { IsFrame original.now.head export.now.head frame }
+        requires uncut { IsUncut ((frame.turn).setting.claim).now.keep (within.from).ps (within.to).ps }
+        requires each { length self.old.counts.tallies.items ≡ length (frame.pairs).now }
+        ensures each { length self.new.counts.tallies.items ≡ length (frame.entry.pairs).now }
+        ensures holds { HasSeenIn (AreTallies self.old.counts.tallies.items)
+            (AreTallies self.new.counts.tallies.items) frame.entry original.now export.now within }
+        ensures noted { self.new.is_whole ≡ true → (self.old.is_whole ≡ true) × AreNotedAt original.now
+            export.now frame.entry self.new.counts.tallies.items self.old.part self.new.part }
+        ensures parts { self.new.parts ≡ self.old.parts }
+    {
+        self.counts.see(original, export, frame, within);
+        match self.note(original, export, frame, within) {
+            Ok(()) => {}
+            Err(_) => self.is_whole = false,
+        }
     }
 
     /// Keeps an export that was read to its end, with what was counted last.
@@ -212,9 +260,7 @@ impl Onlooker for Looker {
     }
 
     fn begin(&mut self, frame: Frame<'_>) -> Result<(), AllocError> {
-        self.counts = Counts::new(self.alloc, frame)?;
-        self.part = PartSoFar::new(self.alloc, frame.pairs.len())?;
-        Ok(())
+        self.begin_with(frame)
     }
 
     fn look(
@@ -224,9 +270,7 @@ impl Onlooker for Looker {
         frame: Frame<'_>,
         within: Window,
     ) {
-        self.counts.see(original, export, frame, within);
-        let noted = self.note(original, export, frame, within);
-        self.is_whole = self.is_whole && noted.is_ok();
+        self.look_at(original, export, frame, within);
     }
 
     fn take_export(&mut self, export: FileReader) -> Result<(), AllocError> {

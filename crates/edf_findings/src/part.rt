@@ -1,12 +1,12 @@
 //! What is seen of one export while it is compared.
 
-ghost use Rattle.std.specs.Prelude.{◌≡◌, length, is_some, IfOk};
+ghost use Rattle.std.specs.Prelude.{◌≡◌, length, is_some, IfOk, replicate};
 ghost use Rattle.std.specs.List.{list_all};
 ghost use Rattle.edf_heads.specs.Comparisons.{AreSorted};
 ghost use Rattle.edf_findings.specs.Told.{AreTold};
 ghost use Rattle.edf_findings.specs.Exports.{channels_of, has_all_of, head_in, is_clean, keeps_between_in, moved_in, starts_of};
 ghost use Rattle.edf_findings.specs.Found.{IsFoundIn};
-ghost use Rattle.edf_findings.specs.Hands.{AreHandsOf, all_noted};
+ghost use Rattle.edf_findings.specs.Hands.{AreHandsOf, all_noted, nowhere_of};
 
 use crate::record_time::Hands;
 use crate::samples::claimed::CountedLabels;
@@ -58,7 +58,9 @@ impl PartSoFar {
     /// Nothing was seen of an export with so many labels.
     ///
     /// The error is want of memory.
-    pub(crate) fn new(alloc: Global, labels: usize) -> Result<PartSoFar, AllocError> {
+    pub(crate) fn new(alloc: Global, labels: usize) -> Result<PartSoFar, AllocError>
+        ensures { IfOk result (λ part. part.found.items ≡ replicate labels nowhere_of) }
+    {
         Ok(PartSoFar {
             found: FoundOf::none_of(alloc, labels)?,
             ..PartSoFar::none(alloc)

@@ -128,7 +128,8 @@ pub fn lay_lane<'a>(
         IsLaidLane lane.entry.now tals layouts → IsLaidAs (map note_value notes.now) keeps_time tals layouts
         (map laid_view laid.items)) }
 {
-    let mut laid = Vec::new(alloc);
+    // mostly a lane has one
+    let mut laid = Vec::with_capacity(alloc, 1)?;
     let mut rest = lane;
     for item in Tals::new(lane) {
         let Ok(tal) = item else {

@@ -16,9 +16,9 @@ use edf_verdict::SampleMismatch;
 pub struct Spot {
     /// How it differs, and when it was taken, after the second at which the original starts.
     pub difference: PointDifference,
-    /// The data record of the original in which this time lies.
+    /// The data record of the original, of those that were noted with it, in which this time lies, if it lies in one.
     pub original_record: Option<u64>,
-    /// The data record of the export in which this time lies.
+    /// The same of the export.
     pub export_record: Option<u64>,
 }
 

@@ -1,8 +1,8 @@
 //! In which data records samples of a channel were found.
 
-ghost use Rattle.std.specs.Prelude.{◌≡◌, if◌then◌else◌, nat_eq, Some};
+ghost use Rattle.std.specs.Prelude.{◌≡◌, if◌then◌else◌, nat_eq, Some, IfOk, replicate};
 ghost use Rattle.std.specs.Option.{option_or};
-ghost use Rattle.edf_findings.specs.Hands.{noted_in, noted_of};
+ghost use Rattle.edf_findings.specs.Hands.{noted_in, noted_of, nowhere_of};
 
 use crate::record_time::Hands;
 use edf_pace::{Counted, Tally};
@@ -63,12 +63,10 @@ impl FoundOf {
     /// None was found of so many channels.
     ///
     /// The error is want of memory.
-    pub(crate) fn none_of(alloc: Global, count: usize) -> Result<Vec<FoundOf>, AllocError> {
-        let mut found = Vec::with_capacity(alloc, count)?;
-        for _ in 0..count {
-            found.push(FoundOf::NONE)?;
-        }
-        Ok(found)
+    pub(crate) fn none_of(alloc: Global, count: usize) -> Result<Vec<FoundOf>, AllocError>
+        ensures { IfOk result (λ found. found.items ≡ replicate count nowhere_of) }
+    {
+        vec![in alloc; FoundOf::NONE; count]
     }
 
     /// Notes the data records at hand, if more samples of the channel were counted in them.

@@ -18,7 +18,7 @@ use std::alloc::{AllocError, Global};
 #[derive(Debug, Drop)]
 pub enum KeptLane {
     /// It is bare: as the first lane it has the TAL that only keeps the time, spelled plainly, and zeros behind
-    /// it; as any other one zeros alone. So the start of its data record tells it.
+    /// it; as any other one zeros alone. So its size and the start of its data record tell it.
     Bare,
     /// Its bytes.
     Bytes(Vec<u8>),

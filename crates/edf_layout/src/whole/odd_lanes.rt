@@ -268,7 +268,8 @@ fn lay<'a>(alloc: Global, notes: &[Note], lane: LaneAt<'a>) -> Result<Vec<LaidTa
     lay_bare(alloc, keeps_time)
 }
 
-/// Whether a lane that a plain order fills has only what a bare one has, which keeps the time or doesn't.
+/// Whether a lane that a plain order fills has only what a bare one has, which keeps the time or doesn't. Only speed
+/// rests on a no.
 fn has_no_note(plain: &PlainLane<'_>, keeps_time: bool) -> bool
     ensures { IsTrue result → (notes : List NoteValue) →
         plainly_laid notes keeps_time (map (plain_view notes) (tals_in plain.now)) ≡ bare_layout keeps_time }
@@ -276,7 +277,8 @@ fn has_no_note(plain: &PlainLane<'_>, keeps_time: bool) -> bool
     plain.notes.is_empty() && plain.start.is_some() == keeps_time
 }
 
-/// Whether a plain order puts into the lane of this number of a data record only what a bare one has.
+/// Whether a plain order puts into the lane of this number of a data record only what a bare one has. Only speed rests
+/// on a no.
 fn are_bare(plain: &[PlainLane<'_>], number: usize) -> bool
     ensures { IsTrue result → (notes : List NoteValue) → plainly_laid notes (number == 0)
         (map (plain_view notes) (tals_at plain.now number)) ≡ bare_layout (number == 0) }

@@ -17,7 +17,7 @@ loop-item-init c = λ tals layouts laid.
     let notes = map note_value c.args.notes.now in
     let items : List Item = items_left c.into_iter-item-iterator.result in
     let read = ap items_left c.into_iter-item-iterator.ensures.into_iter_gives ∙ c.new-item-items.ensures.items ∙ lane-read tals c.args.lane.now (unlaid c.args.lane.now tals layouts laid) in
-    subst (λ xs. Left notes c.args.keeps_time tals layouts xs c.args.lane.now items) (sym (ap (map laid_view) c.new-laid.ensures.items)) (all-left notes c.args.keeps_time tals layouts c.args.lane.now items read laid)
+    subst (λ xs. Left notes c.args.keeps_time tals layouts xs c.args.lane.now items) (sym (ap (map laid_view) c.in_ok-laid.ensures.items)) (all-left notes c.args.keeps_time tals layouts c.args.lane.now items read laid)
 
 pub returns-in_default : goal.returns-in_default
 returns-in_default c = λ tals layouts laid.
