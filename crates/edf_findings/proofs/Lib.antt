@@ -5,4 +5,3 @@ pub mod LabelFacts
 pub mod NoneFacts
 pub mod SeenFacts
 pub mod OneWayFacts
-pub mod NotedFacts

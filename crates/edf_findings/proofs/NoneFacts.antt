@@ -4,11 +4,12 @@ use Rattle.std.proofs.lemmas.List.{length-map}
 use Rattle.std.specs.List.{AllByRecursion, list_all}
 use Rattle.std.specs.List.Sorted.{IsPermutation}
 use Rattle.std.proofs.lemmas.List.Sorted.{IsPermutation-sym, sum_by-IsPermutation}
-use Rattle.edf_check.proofs.ForCallers.{nothing_found}
+use Rattle.edf_check.proofs.ForCallers.{nothing_found, ordered_parts, serial_later}
 use Rattle.edf_check.specs.KeptReading.{kept_notes, origin_of}
 use Rattle.edf_check.specs.Laws.{IsYes, NothingIsFoundIn}
 use Rattle.edf_check.specs.parts.Counted.{AreCounted, HasNothing, IsWhole, count_of, serial_counts}
-use Rattle.edf_check.specs.parts.Parts.{exported_by_all}
+use Rattle.edf_check.specs.parts.Parts.{FollowOneAnother, exported_by_all}
+use Rattle.edf_check.specs.parts.PartsFound.{AreOrdered}
 use Rattle.edf_claim.specs.ClaimValues.{ClaimValue}
 use Rattle.edf_fields.specs.Lists.{Has}
 use Rattle.edf_fields.proofs.ForCallers.{and-true, at-has, has-at, has-permutation, map-has}
@@ -17,13 +18,14 @@ use Rattle.edf_header.specs.HeadsReading.{head_of}
 use Rattle.edf_heads.specs.Comparisons.{AreSorted}
 use Rattle.edf_heads.specs.HeadVerdicts.{IsBroken}
 use Rattle.edf_pace.specs.Annotations.{SameNotes, note_cmp, times}
+use Rattle.edf_pace.proofs.ForCallers.{none_of_each, tallies_of}
 use Rattle.edf_pace.specs.Kept.{shift_ps}
 use Rattle.edf_pace.specs.walk.Columns.{Sampled, channel_at}
-use Rattle.edf_pace.specs.walk.Counting.{differences_in, differences_since, span_counts}
+use Rattle.edf_pace.specs.walk.Counting.{differences_in, differences_since, span_counts, span_found}
 use Rattle.edf_pace.specs.walk.Pairs.{Places, places_in}
 use Rattle.edf_pace.specs.walk.Readings.{beginning}
 use Rattle.edf_pace.specs.walk.Shown.{last_end_by}
-use Rattle.edf_pace.specs.walk.Watching.{ExportCount}
+use Rattle.edf_pace.specs.walk.Watching.{ExportCount, two_files}
 use Rattle.edf_pace.specs.walk.Windows.{is_last, sampled}
 use Rattle.edf_samples.specs.Tallies.{counted, is_changed, is_extra, is_missing, of_kind, tally_of}
 use Rattle.edf_samples.specs.declared.difference.PointDifference.{PointDifference}
@@ -43,7 +45,7 @@ use Rattle.edf_findings.specs.declared.part.ComparedPart.{ComparedPart}
 use Rattle.edf_findings.specs.declared.part.PartFindings.{PartFindings}
 use Rattle.edf_findings.specs.declared.part.ReadPart.{ReadPart}
 use Rattle.edf_findings.specs.declared.samples.compared.ComparedChannel.{ComparedChannel}
-use Rattle.edf_findings.specs.declared.samples.found_in.FoundOf.{FoundOf}
+use Rattle.edf_pace.specs.declared.walk.watchers.found_in.ChannelCount.{ChannelCount}
 use Rattle.edf_findings.proofs.LabelFacts.{one-order}
 
 -- ---- the tally of no difference
@@ -104,6 +106,11 @@ mapped-has : {X Y : Type 0} (f : X → Y) (xs : List X) (x : X) → Has xs x →
 mapped-has f (y ∷ ys) x (inl e) = inl (ap f e)
 mapped-has f (y ∷ ys) x (inr h) = inr (mapped-has f ys x h)
 mapped-has f [] x h = absurd h
+
+mapped-at : {X Y : Type 0} (f : X → Y) (xs : List X) (at : ℕ) (x : X) → slice_get xs at ≡ Some x → slice_get (map f xs) at ≡ Some (f x)
+mapped-at f [] at x is = absurd (let z : None ≡ Some x = is in cc)
+mapped-at f (y ∷ ys) zero x is = (let z : Some y ≡ Some x = is in let e : y ≡ x = cc in ap (λ w. Some (f w)) e)
+mapped-at f (y ∷ ys) (suc at) x is = mapped-at f ys at x is
 
 -- ---- one export
 
@@ -177,24 +184,31 @@ module _ (D : Places → List PointDifference) (no-first : (p : Places) → p.0 
       sym this ∙ ap tally_at same
   tally-of-label (x ∷ xs) (suc at) label t there is = tally-of-label xs at label t there is
 
-  abbrev seen : List FoundOf → Seen
-  seen found = record { original = h; export = g; tallies = tallies; found = found }
+  abbrev seen : List ChannelCount → Seen
+  seen counts = record { original = h; export = g; counts = counts }
 
-  told-tally : (found : List FoundOf) (label : List ℕ) (c : ComparedChannel) (told : IsToldAt others (seen found) label c) → told.tally ≡ tally_at label
-  told-tally found label c told =
-      tally-of-label labels told.at label told.tally (ap (λ xs. slice_get xs told.at) (one-order claimed labels others sorted also) ∙ told.label_is) told.tally_is
+  -- each tally is that of a count
+  abbrev AreTalliesOf : List ChannelCount → Type 0
+  AreTalliesOf counts = map (λ (count : ChannelCount). count.tally) counts ≡ tallies
 
-  told-has : (found : List FoundOf) (label : List ℕ) (c : ComparedChannel) (told : IsToldAt others (seen found) label c) → Has tallies told.tally
-  told-has found label c told = has-at tallies told.at told.tally told.tally_is
+  told-at : (counts : List ChannelCount) → AreTalliesOf counts → (at : ℕ) (count : ChannelCount) → slice_get counts at ≡ Some count → slice_get tallies at ≡ Some count.tally
+  told-at counts are at count is = ap (λ xs. slice_get xs at) (sym are) ∙ mapped-at (λ (x : ChannelCount). x.tally) counts at count is
 
-  clean-where-none : (found : List FoundOf) (channels : List ComparedChannel) → AreTold claimed others (seen found) channels → AllByRecursion IsNone tallies → list_all is_clean channels ≡ true
-  clean-where-none found channels are none = all-true is_clean channels (λ c has.
+  told-tally : (counts : List ChannelCount) → AreTalliesOf counts → (label : List ℕ) (c : ComparedChannel) (told : IsToldAt others (seen counts) label c) → (told.count).tally ≡ tally_at label
+  told-tally counts of label c told =
+      tally-of-label labels told.at label (told.count).tally (ap (λ xs. slice_get xs told.at) (one-order claimed labels others sorted also) ∙ told.label_is) (told-at counts of told.at told.count told.count_is)
+
+  told-has : (counts : List ChannelCount) → AreTalliesOf counts → (label : List ℕ) (c : ComparedChannel) (told : IsToldAt others (seen counts) label c) → Has tallies (told.count).tally
+  told-has counts of label c told = has-at tallies told.at (told.count).tally (told-at counts of told.at told.count told.count_is)
+
+  clean-where-none : (counts : List ChannelCount) → AreTalliesOf counts → (channels : List ComparedChannel) → AreTold claimed others (seen counts) channels → AllByRecursion IsNone tallies → list_all is_clean channels ≡ true
+  clean-where-none counts of channels are none = all-true is_clean channels (λ c has.
       let told = (are.each c has).2 in
       let t = told.told in
-      told-clean told.tally c (all-there IsNone tallies none told.tally (told-has found (are.each c has).0 c told)) (t.0).0 (t.1).0 (t.2).0)
+      told-clean (told.count).tally c (all-there IsNone tallies none (told.count).tally (told-has counts of (are.each c has).0 c told)) (t.0).0 (t.1).0 (t.2).0)
 
-  none-where-clean : (hands : List FoundOf) (channels : List ComparedChannel) → AreTold claimed others (seen hands) channels → list_all is_clean channels ≡ true → AllByRecursion IsNone tallies
-  none-where-clean hands channels are clean =
+  none-where-clean : (counts : List ChannelCount) → AreTalliesOf counts → (channels : List ComparedChannel) → AreTold claimed others (seen counts) channels → list_all is_clean channels ≡ true → AllByRecursion IsNone tallies
+  none-where-clean counts of channels are clean =
       all-mapped tally_by IsNone (places_in h g labels) (λ p has.
       let at = map-has (λ (label : Bor (List ℕ)). (channel_at label.now h, channel_at label.now g)) labels p has in
       subst (λ (q : Places). tally_by q ≡ tally_of []) at.2 (by at.0 at.1 (is_in_both h g (at.0).now) refl))
@@ -215,19 +229,19 @@ module _ (D : Places → List PointDifference) (no-first : (p : Places) → p.0 
           let told = each.2 in
           let k : c.place ≡ place.0 = (let z = found.2 in omega (arith, z)) in
           let same : each.0 ≡ label.now = (let e : Some each.0 ≡ Some label.now = sym each.1 ∙ ap (slice_get claimed) k ∙ place.1 in cc) in
-          let tally : told.tally ≡ tally_at label.now = told-tally hands each.0 c told ∙ ap tally_at same in
-          let counts = clean-counts c (each-true is_clean channels clean c found.1) in
+          let tally : (told.count).tally ≡ tally_at label.now = told-tally counts of each.0 c told ∙ ap tally_at same in
+          let none = clean-counts c (each-true is_clean channels clean c found.1) in
           let t = told.told in
-          let m = ap (λ (z : Tally). z.missing.count) (sym tally) ∙ sym (t.0).0 ∙ counts.0 in
-          let e = ap (λ (z : Tally). z.extra.count) (sym tally) ∙ sym (t.1).0 ∙ counts.1 in
-          let d = ap (λ (z : Tally). z.changed.count) (sym tally) ∙ sym (t.2).0 ∙ counts.2 in
+          let m = ap (λ (z : Tally). z.missing.count) (sym tally) ∙ sym (t.0).0 ∙ none.0 in
+          let e = ap (λ (z : Tally). z.extra.count) (sym tally) ∙ sym (t.1).0 ∙ none.1 in
+          let d = ap (λ (z : Tally). z.changed.count) (sym tally) ∙ sym (t.2).0 ∙ none.2 in
           ap tally_of (none-counted (D (places_at label.now)) m e d)
 
-  part-clean : (claim : ClaimValue) (o : Head) (part : ReadPart) (f : PartFindings) → o ≡ h → claim.channels ≡ claimed → part.header ≡ g → part.tallies.items ≡ tallies → IsFoundIn claim others o part f
+  part-clean : (claim : ClaimValue) (o : Head) (part : ReadPart) (f : PartFindings) → o ≡ h → claim.channels ≡ claimed → part.header ≡ g → AreTalliesOf part.counts.items → IsFoundIn claim others o part f
       → AllByRecursion IsNone tallies ↔ (list_all is_clean (channels_of f) ≡ true)
-  part-clean claim o part f is-head is-claim is-header is-tallies found =
-      let many : length part.tallies.items ≡ length others =
-      ap length is-tallies ∙ length-map (places_in h g labels) _ ∙ length-map labels _ ∙ sym (length-map labels (λ (b : Bor (List ℕ)). b.now)) ∙ ap length (one-order claimed labels others sorted also) ∙ length-map others (λ (b : Bor (List ℕ)). b.now)
+  part-clean claim o part f is-head is-claim is-header are-tallies found =
+      let many : length part.counts.items ≡ length others =
+      sym (length-map part.counts.items (λ (count : ChannelCount). count.tally)) ∙ ap length are-tallies ∙ length-map (places_in h g labels) _ ∙ length-map labels _ ∙ sym (length-map labels (λ (b : Bor (List ℕ)). b.now)) ∙ ap length (one-order claimed labels others sorted also) ∙ length-map others (λ (b : Bor (List ℕ)). b.now)
       in
       by f.compared (found.channels many) refl
     where
@@ -236,15 +250,15 @@ module _ (D : Places → List PointDifference) (no-first : (p : Places) → p.0 
       by None m e = absurd m
       by (Some compared) m e =
           let cs = compared.channels.items in
-          let hands = part.so_far.found.items in
-          let made : Head → Head → List Tally → Seen = λ x y z. record { original = x; export = y; tallies = z; found = hands } in
-          let are : AreTold claimed others (seen hands) cs =
-          subst (λ x. AreTold x others (seen hands) cs) is-claim (subst (λ x. AreTold claim.channels others (made h g x) cs) is-tallies (subst (λ x. AreTold claim.channels others (made x g part.tallies.items) cs) is-head
-          (subst (λ x. AreTold claim.channels others (made o x part.tallies.items) cs) is-header m)))
+          let counts = part.counts.items in
+          let made : Head → Head → Seen = λ x y. record { original = x; export = y; counts = counts } in
+          let are : AreTold claimed others (seen counts) cs =
+          subst (λ x. AreTold x others (seen counts) cs) is-claim (subst (λ x. AreTold claim.channels others (made x g) cs) is-head
+          (subst (λ x. AreTold claim.channels others (made o x) cs) is-header m))
           in
           let shown : channels_of f ≡ cs = ap compared_channels e in (
-            λ none. ap (list_all is_clean) shown ∙ clean-where-none hands cs are none,
-            λ clean. none-where-clean hands cs are (sym (ap (list_all is_clean) shown) ∙ clean),
+            λ none. ap (list_all is_clean) shown ∙ clean-where-none counts are-tallies cs are none,
+            λ clean. none-where-clean counts are-tallies cs are (sym (ap (list_all is_clean) shown) ∙ clean),
           )
 
 -- ---- several exports
@@ -276,7 +290,7 @@ in-second claim o e t u (Some p, None) none = refl
 in-second claim o e t u (Some p, Some q) none = absurd (let z : Some q ≡ None = none in cc)
 
 one-clean : (last : Bool) (claim : ClaimValue) (x y : Sampled) (t u : ℤ) (h g : Head) (labels others : List (Bor (List ℕ))) (part : ReadPart) (f : PartFindings) → AreSorted claim.channels labels → AreSorted claim.channels others
-    → part.header ≡ g → part.tallies.items ≡ span_counts last claim x y (places_in h g labels) t u → IsFoundIn claim others h part f
+    → part.header ≡ g → map (λ (count : ChannelCount). count.tally) part.counts.items ≡ span_counts last claim x y (places_in h g labels) t u → IsFoundIn claim others h part f
     → AllByRecursion (λ (tally : Tally). tally ≡ tally_of []) (span_counts last claim x y (places_in h g labels) t u) ↔ (list_all is_clean (channels_of f) ≡ true)
 one-clean true claim x y t u h g labels others part f sorted also header tallies found =
     part-clean (λ (p : Places). differences_since claim x y t p.0 p.1) (since-first claim x y t) (since-second claim x y t) h g claim.channels labels others sorted also claim h part f refl refl header tallies found
@@ -284,40 +298,47 @@ one-clean false claim x y t u h g labels others part f sorted also header tallie
     part-clean (λ (p : Places). differences_in claim x y t u p.0 p.1) (in-first claim x y t u) (in-second claim x y t u) h g claim.channels labels others sorted also claim h part f refl refl header tallies found
 
 abbrev count_in : ReadPart → ExportCount
-count_in part = record { head = part.header; tallies = part.tallies.items }
+count_in part = record { head = part.header; counts = part.counts.items }
 
--- nothing was counted exactly where all channels of all exports are as claimed
+-- of exports of which none begins early nothing was counted exactly where all channels of all of them are as claimed
 pub all-clean : (claim : ClaimValue) (o : List ℕ) (h : Head) (a b : ℤ) (labels others : List (Bor (List ℕ))) (t : ℤ) (parts : List (List ℕ)) (ps : List ReadPart) (fs : List PartFindings) → AreSorted claim.channels labels → AreSorted claim.channels others
-    → map count_in ps ≡ serial_counts claim o h a b labels t parts → AreFoundIn claim others h ps fs → HasNothing (serial_counts claim o h a b labels t parts) ↔ AreClean fs
-all-clean claim o h a b labels others t [] [] [] sorted also e are = (λ n. tt, λ n. tt)
-all-clean claim o h a b labels others t [] [] (f ∷ fs) sorted also e are = absurd are
-all-clean claim o h a b labels others t [] (p ∷ ps) fs sorted also e are = absurd (let z : count_in p ∷ map count_in ps ≡ [] = e in cc)
-all-clean claim o h a b labels others t (part ∷ parts) [] fs sorted also e are = absurd (let z : [] ≡ _ ∷ _ = e in cc)
-all-clean claim o h a b labels others t (part ∷ parts) (p ∷ ps) [] sorted also e are = absurd are
-all-clean claim o h a b labels others t (part ∷ parts) (p ∷ ps) (f ∷ fs) sorted also e are =
+    → AreOrdered b t parts → map count_in ps ≡ serial_counts claim o h a b labels t parts → AreFoundIn claim others h ps fs → HasNothing (serial_counts claim o h a b labels t parts) ↔ AreClean fs
+all-clean claim o h a b labels others t [] [] [] sorted also order e are = (λ n. tt, λ n. tt)
+all-clean claim o h a b labels others t [] [] (f ∷ fs) sorted also order e are = absurd are
+all-clean claim o h a b labels others t [] (p ∷ ps) fs sorted also order e are = absurd (let z : count_in p ∷ map count_in ps ≡ [] = e in cc)
+all-clean claim o h a b labels others t (part ∷ parts) [] fs sorted also order e are = absurd (let z : [] ≡ _ ∷ _ = e ∙ serial_later claim o h a b labels t part parts order.0 in cc)
+all-clean claim o h a b labels others t (part ∷ parts) (p ∷ ps) [] sorted also order e are = absurd are
+all-clean claim o h a b labels others t (part ∷ parts) (p ∷ ps) (f ∷ fs) sorted also order e are =
     let v = last_end_by part (head_of part) b in
-    let counts = span_counts (is_last parts) claim (sampled o h a) (sampled part (head_of part) b) (places_in h (head_of part) labels) t v in
+    let tallies = span_counts (is_last parts) claim (sampled o h a) (sampled part (head_of part) b) (places_in h (head_of part) labels) t v in
+    let counts = span_found (is_last parts) claim (two_files o h part (head_of part)) a b (places_in h (head_of part) labels) t v in
+    let whole = serial_later claim o h a b labels t part parts order.0 in
+    let all : count_in p ∷ map count_in ps ≡ count_of part counts ∷ serial_counts claim o h a b labels v parts = e ∙ whole in
     let first : count_in p ≡ count_of part counts = cc in
     let later : map count_in ps ≡ serial_counts claim o h a b labels v parts = cc in
-    let here = one-clean (is_last parts) claim (sampled o h a) (sampled part (head_of part) b) t v h (head_of part) labels others p f sorted also (ap (λ (x : ExportCount). x.head) first) (ap (λ (x : ExportCount). x.tallies) first) are.0 in
-    let rest = all-clean claim o h a b labels others v parts ps fs sorted also later are.1 in
-    (λ n. (here.0 n.0, rest.0 n.1), λ n. (here.1 n.0, rest.1 n.1))
+    let same : map (λ (count : ChannelCount). count.tally) p.counts.items ≡ tallies =
+    ap (λ (x : ExportCount). map (λ (count : ChannelCount). count.tally) x.counts) first ∙ tallies_of (two_files o h part (head_of part)) a b tallies in
+    let none = none_of_each (two_files o h part (head_of part)) a b tallies in
+    let here = one-clean (is_last parts) claim (sampled o h a) (sampled part (head_of part) b) t v h (head_of part) labels others p f sorted also (ap (λ (x : ExportCount). x.head) first) same are.0 in
+    let rest = all-clean claim o h a b labels others v parts ps fs sorted also order.1 later are.1 in
+    (λ n. (let each = subst HasNothing whole n in (here.0 (none.0 each.0), rest.0 each.1)), λ n. subst HasNothing (sym whole) (none.1 (here.1 n.0), rest.1 n.1))
 
 -- and the headers are those of the exports
 pub heads-are : (claim : ClaimValue) (o : List ℕ) (h k : Head) (a b : ℤ) (labels others : List (Bor (List ℕ))) (t : ℤ) (parts : List (List ℕ)) (ps : List ReadPart) (fs : List PartFindings)
-    → map count_in ps ≡ serial_counts claim o h a b labels t parts → AreFoundIn claim others k ps fs → map (λ (f : PartFindings). f.header) fs ≡ map head_of parts
-heads-are claim o h k a b labels others t [] [] [] e are = refl
-heads-are claim o h k a b labels others t [] [] (f ∷ fs) e are = absurd are
-heads-are claim o h k a b labels others t [] (p ∷ ps) fs e are = absurd (let z : count_in p ∷ map count_in ps ≡ [] = e in cc)
-heads-are claim o h k a b labels others t (part ∷ parts) [] fs e are = absurd (let z : [] ≡ _ ∷ _ = e in cc)
-heads-are claim o h k a b labels others t (part ∷ parts) (p ∷ ps) [] e are = absurd are
-heads-are claim o h k a b labels others t (part ∷ parts) (p ∷ ps) (f ∷ fs) e are =
+    → AreOrdered b t parts → map count_in ps ≡ serial_counts claim o h a b labels t parts → AreFoundIn claim others k ps fs → map (λ (f : PartFindings). f.header) fs ≡ map head_of parts
+heads-are claim o h k a b labels others t [] [] [] order e are = refl
+heads-are claim o h k a b labels others t [] [] (f ∷ fs) order e are = absurd are
+heads-are claim o h k a b labels others t [] (p ∷ ps) fs order e are = absurd (let z : count_in p ∷ map count_in ps ≡ [] = e in cc)
+heads-are claim o h k a b labels others t (part ∷ parts) [] fs order e are = absurd (let z : [] ≡ _ ∷ _ = e ∙ serial_later claim o h a b labels t part parts order.0 in cc)
+heads-are claim o h k a b labels others t (part ∷ parts) (p ∷ ps) [] order e are = absurd are
+heads-are claim o h k a b labels others t (part ∷ parts) (p ∷ ps) (f ∷ fs) order e are =
     let v = last_end_by part (head_of part) b in
-    let counts = span_counts (is_last parts) claim (sampled o h a) (sampled part (head_of part) b) (places_in h (head_of part) labels) t v in
+    let counts = span_found (is_last parts) claim (two_files o h part (head_of part)) a b (places_in h (head_of part) labels) t v in
+    let all : count_in p ∷ map count_in ps ≡ count_of part counts ∷ serial_counts claim o h a b labels v parts = e ∙ serial_later claim o h a b labels t part parts order.0 in
     let first : count_in p ≡ count_of part counts = cc in
     let later : map count_in ps ≡ serial_counts claim o h a b labels v parts = cc in
     let here : f.header ≡ head_of part = (are.0).header ∙ ap (λ (x : ExportCount). x.head) first in
-    ap (λ (x : Head). x ∷ map (λ (g : PartFindings). g.header) fs) here ∙ ap (λ xs. head_of part ∷ xs) (heads-are claim o h k a b labels others v parts ps fs later are.1)
+    ap (λ (x : Head). x ∷ map (λ (g : PartFindings). g.header) fs) here ∙ ap (λ xs. head_of part ∷ xs) (heads-are claim o h k a b labels others v parts ps fs order.1 later are.1)
 
 -- annotations in another order are the same
 same-permuted : (xs ys zs ws : List NoteValue) → IsPermutation xs zs → IsPermutation ys ws → SameNotes xs ys ↔ SameNotes zs ws
@@ -365,22 +386,25 @@ no_finding o parts claim found v is some conform follow verdict from = (
     counts : counted_by looker ≡ serial_counts claim o (head_of o) a b counted-so.labels beginning parts
     counts = counted-so.are
 
+    ordered : AreOrdered b beginning parts
+    ordered = ordered_parts o parts claim is conform follow
+
     law : NothingIsFoundIn o parts claim (counted_by looker) ↔ IsYes v.verdict
     law = nothing_found o parts claim (counted_by looker) v is some conform verdict counted-so
 
     whole : IsWhole o parts claim (record { head = found.original; kept = map note_value looker.notes.kept.items; exported = map note_value looker.notes.exported.items })
     whole =
-        let S : Option Head → Type 0 = λ x. MatchOption (option_map (λ (head : Head). record { head = head; kept = map note_value looker.notes.kept.items; exported = map note_value looker.notes.exported.items }) x) ⊥ (IsWhole o parts claim) in
-        subst S are.original_is (from.seen).whole
+        let S : Option Head → Type 0 = λ x. MatchOption (option_map (λ (head : Head). record { head = head; kept = map note_value looker.notes.kept.items; exported = map note_value looker.notes.exported.items }) x) ⊥ (λ shown. FollowOneAnother parts → IsWhole o parts claim shown) in
+        subst S are.original_is (from.seen).whole follow
 
     in-original : AreFoundIn claim are.labels (head_of o) looker.parts.items found.parts.items
     in-original = subst (λ x. AreFoundIn claim are.labels x looker.parts.items found.parts.items) whole.head are.are
 
     headers : map (λ (f : PartFindings). f.header) found.parts.items ≡ map head_of parts
-    headers = heads-are claim o (head_of o) (head_of o) a b counted-so.labels are.labels beginning parts looker.parts.items found.parts.items counts in-original
+    headers = heads-are claim o (head_of o) (head_of o) a b counted-so.labels are.labels beginning parts looker.parts.items found.parts.items ordered counts in-original
 
     clean : HasNothing (serial_counts claim o (head_of o) a b counted-so.labels beginning parts) ↔ AreClean found.parts.items
-    clean = all-clean claim o (head_of o) a b counted-so.labels are.labels beginning parts looker.parts.items found.parts.items counted-so.sorted are.sorted counts in-original
+    clean = all-clean claim o (head_of o) a b counted-so.labels are.labels beginning parts looker.parts.items found.parts.items counted-so.sorted are.sorted ordered counts in-original
 
     as-list : (fs : List PartFindings) → ((part : PartFindings) → Has fs part → list_all is_clean (channels_of part) ≡ true) → AreClean fs
     as-list [] each = tt

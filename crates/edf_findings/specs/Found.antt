@@ -1,46 +1,35 @@
 -- What is found in an original and its exports, of what was counted of each.
-use Rattle.std.specs.Prelude.{◌≡◌, ℕ, List, [], ◌∷◌, map, length, true, IsTrue, is_some, Option, Some, MatchOption}
+use Rattle.std.specs.Prelude.{◌≡◌, ◌≢◌, ℕ, List, [], ◌∷◌, map, length, true, IsTrue, is_some, Option, None, Some, MatchOption}
 use Rattle.std.specs.List.{AllByRecursion}
 use Rattle.std.specs.Option.{option_map}
 use Rattle.std.specs.Borrow.{Bor}
 use Rattle.edf_check.specs.parts.Counted.{AreCountedOfAll, IsCountedOfTwo, looked_on}
-use Rattle.edf_check.specs.parts.Parts.{AllConform, FollowOneAnother}
+use Rattle.edf_check.specs.parts.Parts.{AllConform}
 use Rattle.edf_claim.specs.ClaimValues.{ClaimValue}
 use Rattle.edf_fields.specs.declared.in_out.source.Source.{Ghosts}
 use Rattle.edf_header.specs.Heads.{Head}
 use Rattle.edf_header.specs.HeadsReading.{head_of}
 use Rattle.edf_heads.specs.Comparisons.{AreSorted}
 use Rattle.edf_findings.specs.declared.findings.Findings.{Findings}
-use Rattle.edf_findings.specs.Hands.{AreHandsOf, all_noted}
 use Rattle.edf_findings.specs.declared.looker.Looker.{Looker}
 use Rattle.edf_findings.specs.declared.notes.both.Notes.{Notes}
 use Rattle.edf_findings.specs.declared.part.PartFindings.{PartFindings}
-use Rattle.edf_findings.specs.declared.part.PartSoFar.{PartSoFar}
-use Rattle.edf_findings.specs.declared.record_time.Hands.{Hands}
-use Rattle.edf_pace.specs.declared.walk.frame.Frame.{Frame}
-use Rattle.edf_samples.specs.declared.counts.tally.Tally.{Tally}
-use Rattle.edf_stream.specs.records.Readers.{Reader}
 use Rattle.edf_findings.specs.declared.part.ReadPart.{ReadPart}
 use Rattle.edf_findings.specs.Told.{AreTold, Seen}
 use Rattle.edf_pace.specs.walk.Watching.{ExportCount, WholeShown}
 use Rattle.edf_stream.specs.Conforming.{Conforms}
 use Rattle.edf_stream.specs.Views.{note_value}
 
--- between two moments a look at both files was taken, with what was counted then: the data records at hand of each were noted with the
--- samples of which more were counted
-abbrev pub AreNotedAt : Reader → Reader → Frame → List Tally → PartSoFar → PartSoFar → Type 0
-AreNotedAt original export frame tallies old new =
-    (hands : Hands) × AreHandsOf original ((frame.turn).setting.clock.original).ps export ((frame.turn).setting.clock.export).ps hands
-    × (new.found.items ≡ all_noted hands old.found.items tallies)
-
 -- what was seen of an export that was read, beside an original with this header
 abbrev pub seen_in : Head → ReadPart → Seen
-seen_in h part = record { original = h; export = part.header; tallies = part.tallies.items; found = part.so_far.found.items }
+seen_in h part = record { original = h; export = part.header; counts = part.counts.items }
 
--- of an export that was read this is found: where something was counted of each label, it is told of the claimed channels that both files have
+-- of an export that was read this is found: where something was counted of each label, it is told of the claimed channels that both files have;
+-- else nothing is told of any channel
 pub record IsFoundIn (claim : ClaimValue) (labels : List (Bor (List ℕ))) (h : Head) (part : ReadPart) (found : PartFindings) : Type 0 where
   pub header : found.header ≡ part.header
-  pub channels : length part.tallies.items ≡ length labels
+  pub uncompared : length part.counts.items ≢ length labels → found.compared ≡ None
+  pub channels : length part.counts.items ≡ length labels
       → MatchOption found.compared ⊥ (λ compared. AreTold claim.channels labels (seen_in h part) compared.channels.items)
 
 -- of each of these exports
@@ -59,7 +48,7 @@ pub record AreFindings (claim : ClaimValue) (original : Head) (parts : List Part
 
 -- what somebody who looked on counted of each export that was read to its end
 abbrev pub counted_by : Looker → List ExportCount
-counted_by looker = map (λ (part : ReadPart). record { head = part.header; tallies = part.tallies.items }) looker.parts.items
+counted_by looker = map (λ (part : ReadPart). record { head = part.header; counts = part.counts.items }) looker.parts.items
 
 -- what somebody who looked on has of all files, where the original was read to its end
 abbrev pub shown_by : Looker → Option WholeShown
@@ -88,7 +77,7 @@ abbrev pub HasFindingsOf : {O E : Type 0} → Ghosts O → Ghosts E → O → E 
 HasFindingsOf original export o e found = IsTrue (original.is_honest o) → IsTrue (export.is_honest e)
     → Conforms (original.left o) (head_of (original.left o)) → Conforms (export.left e) (head_of (export.left e)) → IsTrue (is_some found)
 
--- there are findings, if an original and several exports conform, and these follow one another
+-- there are findings, if an original and several exports conform
 abbrev pub HasFindingsOfAll : {O E : Type 0} → Ghosts O → Ghosts E → O → List E → Option Findings → Type 0
 HasFindingsOfAll original export o parts found = IsTrue (original.is_honest o) → AllByRecursion IsTrue (map export.is_honest parts)
-    → AllConform (original.left o) (map export.left parts) → FollowOneAnother (map export.left parts) → IsTrue (is_some found)
+    → AllConform (original.left o) (map export.left parts) → IsTrue (is_some found)

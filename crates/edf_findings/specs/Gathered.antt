@@ -1,14 +1,17 @@
 -- Which annotations are gathered while somebody looks on.
-use Rattle.std.specs.Prelude.{◌≡◌, ◌&&◌, ◌||◌, ℕ, ℤ, not, Bool, List, [], ◌∷◌, if◌then◌else◌}
+use Rattle.std.specs.Prelude.{◌≡◌, ◌==◌, ◌&&◌, ◌||◌, ℕ, ℤ, not, Bool, List, [], ◌∷◌, if◌then◌else◌}
 use Rattle.edf_claim.specs.Keeps.{keeps_annotation, keeps_instant}
 use Rattle.edf_claim.specs.KeepsReading.{blanks}
 use Rattle.edf_claim.specs.ClaimValues.{ClaimValue}
 use Rattle.edf_stream.specs.annotation.Notes.{NoteValue}
 use Rattle.edf_stream.specs.annotation.NotesReading.{notes_in}
-use Rattle.edf_stream.specs.records.Readers.{Reader}
-use Rattle.edf_findings.specs.Hands.{is_another}
+use Rattle.edf_stream.specs.records.Readers.{Reader, is_current}
 use Rattle.edf_findings.specs.declared.looker.Looker.{Looker}
 use Rattle.edf_findings.specs.declared.notes.both.Notes.{Notes}
+
+-- a data record is at hand, and another one than that behind which so many were read
+abbrev pub is_another : ℕ → Reader → Bool
+is_another read r = is_current r.status && not (read == r.read)
 
 -- none is there
 pub record HaveNone (notes : Notes) : Type 0 where

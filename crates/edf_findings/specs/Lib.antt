@@ -5,7 +5,6 @@ pub mod Kinds
 pub mod Gathered
 pub mod Shifts
 pub mod Likeness
-pub mod Hands
 pub mod Laws
 pub mod OneWays
 pub mod ClaimStops

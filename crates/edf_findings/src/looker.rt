@@ -1,12 +1,11 @@
 //! Who looks on while an original and its exports are checked, and takes in what they differ in.
 
-ghost use Rattle.std.specs.Prelude.{◌≡◌, ◌&&◌, ◌++◌, ◌∷◌, [], ℤ, is_some, length, nat_lt, replicate, IfOk, IfSome, OnOk, None, Some, true};
+ghost use Rattle.std.specs.Prelude.{◌≡◌, ◌&&◌, ◌++◌, ◌∷◌, [], ℤ, is_some, length, nat_lt, IfOk, IfSome, OnOk, None, Some, true};
 ghost use Rattle.edf_claim.specs.KeepsReading.{IsUncut};
 ghost use Rattle.edf_heads.specs.Comparisons.{AreSorted};
-ghost use Rattle.edf_findings.specs.Found.{AreFoundBy, AreFoundIn, AreNotedAt, counted_by, shown_by};
+ghost use Rattle.edf_findings.specs.Found.{AreFoundBy, AreFoundIn, counted_by, shown_by};
 ghost use Rattle.edf_findings.specs.Gathered.{HaveNone, hidden_at};
-ghost use Rattle.edf_findings.specs.Hands.{nowhere_of};
-ghost use Rattle.edf_pace.specs.walk.Counting.{AreTallies};
+ghost use Rattle.edf_pace.specs.walk.Counting.{AreCounts};
 ghost use Rattle.edf_pace.specs.walk.Pairs.{IsFrame};
 ghost use Rattle.edf_pace.specs.walk.Watching.{HasSeenIn, TwoFiles};
 
@@ -22,8 +21,8 @@ use edf_stream::{FileReader, Note};
 use std::alloc::{AllocError, Global};
 use std::mem;
 
-/// Looks on while an original and its exports are checked: it counts the samples that differ (`Counts` of `edf_pace`), notes in
-/// which data records they were found, and keeps the annotations of all files.
+/// Looks on while an original and its exports are checked: it counts the samples that differ, and notes in which data records the first
+/// and the last of them lie (`Counts` of `edf_pace`), and keeps the annotations of all files.
 #[derive(Drop)]
 pub(crate) struct Looker {
     alloc: Global,
@@ -76,9 +75,9 @@ impl Looker {
             is_whole: true,
             originals: RecordCount::NONE,
             counts: Counts {
-                tallies: Vec::new(alloc),
+                channels: Vec::new(alloc),
             },
-            part: PartSoFar::none(alloc),
+            part: PartSoFar::none(),
             parts: Vec::new(alloc),
             notes: Notes::new(alloc),
             original: None,
@@ -105,7 +104,7 @@ impl Looker {
         Ok(())
     }
 
-    /// Notes in which data records samples were found between two times, and where the export starts.
+    /// Notes where the export starts, and what else is told of what both files show between two times.
     fn note(
         &mut self,
         original: &FileReader,
@@ -118,8 +117,6 @@ impl Looker {
         ensures notes { OnOk result (self.new.notes.hidden.items ≡ self.old.notes.hidden.items ++
             hidden_at self.old ((frame.entry.turn).setting.claim).now original.now) }
         ensures whole { self.new.is_whole ≡ self.old.is_whole }
-        ensures noted { OnOk result (AreNotedAt original.now export.now frame.entry
-            self.old.counts.tallies.items self.old.part self.new.part) }
     {
         let setting = frame.turn.setting;
         self.take_record(original, setting.claim)?;
@@ -127,28 +124,36 @@ impl Looker {
             reader: original,
             by: setting.clock.original,
         };
-        let hands = self.part.see(here, export, frame, within);
-        self.part.note(&self.counts.tallies, &hands);
+        self.part.see(here, export, frame, within);
         Ok(())
     }
 
-    /// Begins with an export: nothing was counted or noted yet of the channels of this frame.
+    /// Begins with an export: nothing was counted yet of the channels of this frame.
     ///
     /// The error is want of memory.
     fn begin_with(&mut self, frame: Frame<'_>) -> Result<(), AllocError>
-        ensures each { OnOk result (length self.new.counts.tallies.items ≡ length (frame.entry.pairs).now) }
+        ensures each { OnOk result (length self.new.counts.channels.items ≡ length (frame.entry.pairs).now) }
         ensures none { OnOk result ((files : TwoFiles) (t : ℤ) →
-            AreTallies self.new.counts.tallies.items frame.entry files t t) }
-        ensures nowhere { OnOk result (self.new.part.found.items ≡
-            replicate (length (frame.entry.pairs).now) nowhere_of) }
+            AreCounts self.new.counts.channels.items frame.entry files t t) }
         ensures parts { self.new.parts ≡ self.old.parts }
     {
         self.counts = Counts::new(self.alloc, frame)?;
-        self.part = PartSoFar::new(self.alloc, frame.pairs.len())?;
+        self.part = PartSoFar::none();
         Ok(())
     }
 
-    /// Counts what both files show between two times, and notes then in which data records it was found.
+    /// Begins with an export whose samples aren't compared: nothing is counted of any channel.
+    fn begin_with_none(&mut self)
+        ensures counts { self.new.counts.channels.items ≡ [] }
+        ensures parts { self.new.parts ≡ self.old.parts }
+    {
+        self.counts = Counts {
+            channels: Vec::new(self.alloc),
+        };
+        self.part = PartSoFar::none();
+    }
+
+    /// Counts what both files show between two times, and notes in which data records it lies.
     fn look_at(
         &mut self,
         original: &FileReader,
@@ -158,12 +163,11 @@ impl Looker {
     )
         requires frame { IsFrame original.now.head export.now.head frame }
         requires uncut { IsUncut ((frame.turn).setting.claim).now.keep (within.from).ps (within.to).ps }
-        requires each { length self.old.counts.tallies.items ≡ length (frame.pairs).now }
-        ensures each { length self.new.counts.tallies.items ≡ length (frame.entry.pairs).now }
-        ensures holds { HasSeenIn (AreTallies self.old.counts.tallies.items)
-            (AreTallies self.new.counts.tallies.items) frame.entry original.now export.now within }
-        ensures noted { self.new.is_whole ≡ true → (self.old.is_whole ≡ true) × AreNotedAt original.now
-            export.now frame.entry self.new.counts.tallies.items self.old.part self.new.part }
+        requires each { length self.old.counts.channels.items ≡ length (frame.pairs).now }
+        ensures each { length self.new.counts.channels.items ≡ length (frame.entry.pairs).now }
+        ensures holds { HasSeenIn (AreCounts self.old.counts.channels.items)
+            (AreCounts self.new.counts.channels.items) frame.entry original.now export.now within }
+        ensures whole { self.new.is_whole ≡ true → self.old.is_whole ≡ true }
         ensures parts { self.new.parts ≡ self.old.parts }
     {
         self.counts.see(original, export, frame, within);
@@ -178,20 +182,20 @@ impl Looker {
     /// The error is want of memory.
     fn keep_export(&mut self, export: FileReader) -> Result<(), AllocError>
         ensures counted { OnOk result (counted_by self.new ≡ counted_by self.old ++
-            (record { head = export.head; tallies = self.old.counts.tallies.items } ∷ [])) }
+            (record { head = export.head; counts = self.old.counts.channels.items } ∷ [])) }
         ensures parts { OnOk result (self.new.parts.items ≡ self.old.parts.items ++ (record {
           header = export.head;
           so_far = self.old.part;
-          tallies = self.old.counts.tallies;
+          counts = self.old.counts.channels;
         } ∷ [])) }
         ensures notes { self.new.notes ≡ self.old.notes }
     {
-        let tallies = mem::replace(&mut self.counts.tallies, Vec::new(self.alloc));
-        let so_far = mem::replace(&mut self.part, PartSoFar::none(self.alloc));
+        let counts = mem::replace(&mut self.counts.channels, Vec::new(self.alloc));
+        let so_far = mem::replace(&mut self.part, PartSoFar::none());
         self.parts.push(ReadPart {
             header: export.into_header(),
             so_far,
-            tallies,
+            counts,
         })?;
         Ok(())
     }
@@ -249,7 +253,7 @@ impl Onlooker for Looker {
 
     ghost looks = { λ _. true };
 
-    ghost tallies = { λ w. w.counts.tallies.items };
+    ghost counts = { λ w. w.counts.channels.items };
 
     ghost counted = { counted_by };
 
@@ -261,6 +265,10 @@ impl Onlooker for Looker {
 
     fn begin(&mut self, frame: Frame<'_>) -> Result<(), AllocError> {
         self.begin_with(frame)
+    }
+
+    fn begin_without(&mut self) {
+        self.begin_with_none();
     }
 
     fn look(

@@ -1,22 +1,19 @@
 //! What is seen of one export while it is compared.
 
-ghost use Rattle.std.specs.Prelude.{◌≡◌, length, is_some, IfOk, replicate};
+ghost use Rattle.std.specs.Prelude.{◌≡◌, length, is_some, IfOk};
 ghost use Rattle.std.specs.List.{list_all};
 ghost use Rattle.edf_heads.specs.Comparisons.{AreSorted};
 ghost use Rattle.edf_findings.specs.Told.{AreTold};
 ghost use Rattle.edf_findings.specs.Exports.{channels_of, has_all_of, head_in, is_clean, keeps_between_in, moved_in, starts_of};
 ghost use Rattle.edf_findings.specs.Found.{IsFoundIn};
-ghost use Rattle.edf_findings.specs.Hands.{AreHandsOf, all_noted, nowhere_of};
 
-use crate::record_time::Hands;
 use crate::samples::claimed::CountedLabels;
 use crate::samples::compared::ComparedChannel;
-use crate::samples::found_in::FoundOf;
 use crate::stand::{RecordCount, Stand};
 use crate::starts::Starts;
 use edf_claim::Claim;
 use edf_header::Header;
-use edf_pace::{Frame, Pair, Tally, Window, pairs_of};
+use edf_pace::{ChannelCount, Frame, Pair, Window, pairs_of};
 use edf_stream::FileReader;
 use std::alloc::{AllocError, Global};
 
@@ -24,8 +21,6 @@ use std::alloc::{AllocError, Global};
 #[derive(Drop)]
 pub(crate) struct PartSoFar {
     records: RecordCount,
-    /// In which data records samples of the channels were found, in the order of the labels.
-    found: Vec<FoundOf>,
     /// When the first sample is taken that is kept.
     first_ps: Option<i128>,
     /// When the first data record starts, as the export has it.
@@ -55,23 +50,10 @@ fn first_between(pairs: &[Pair], original: Stand<'_>, within: Window) -> Option<
 }
 
 impl PartSoFar {
-    /// Nothing was seen of an export with so many labels.
-    ///
-    /// The error is want of memory.
-    pub(crate) fn new(alloc: Global, labels: usize) -> Result<PartSoFar, AllocError>
-        ensures { IfOk result (λ part. part.found.items ≡ replicate labels nowhere_of) }
-    {
-        Ok(PartSoFar {
-            found: FoundOf::none_of(alloc, labels)?,
-            ..PartSoFar::none(alloc)
-        })
-    }
-
-    /// Nothing was seen of an export that isn't compared.
-    pub(crate) fn none(alloc: Global) -> PartSoFar {
+    /// Nothing was seen of an export.
+    pub(crate) fn none() -> PartSoFar {
         PartSoFar {
             records: RecordCount::NONE,
-            found: Vec::new(alloc),
             first_ps: None,
             begin_ps: None,
             keeps_between: false,
@@ -80,9 +62,7 @@ impl PartSoFar {
     }
 
     /// Takes in the data record of the export at hand, if it is another one than before.
-    fn take_record(&mut self, export: &FileReader)
-        ensures { self.new.found ≡ self.old.found }
-    {
+    fn take_record(&mut self, export: &FileReader) {
         if !self.records.take_in(export) {
             return;
         }
@@ -93,9 +73,7 @@ impl PartSoFar {
 
     /// Sees when the first sample of the original is taken that is kept between two times, where all are and none was seen so
     /// far.
-    fn see_first(&mut self, pairs: &[Pair], original: Stand<'_>, within: Window)
-        ensures { self.new.found ≡ self.old.found }
-    {
+    fn see_first(&mut self, pairs: &[Pair], original: Stand<'_>, within: Window) {
         if self.first_ps.is_some() || !original.has_begun_before(within.to.ps) {
             return;
         }
@@ -103,28 +81,14 @@ impl PartSoFar {
         self.keeps_between = self.keeps_between || self.first_ps.is_none();
     }
 
-    /// Notes in which data records at hand samples were found, of which there are so many now.
-    pub(crate) fn note(&mut self, tallies: &[Tally], hands: &Hands)
-        ensures { self.new.found.items ≡ all_noted hands.now self.old.found.items tallies.now }
-    {
-        for at in 0..self.found.len().min(tallies.len()) {
-            self.found[at].note(&tallies[at], hands);
-        }
-    }
-
-    /// Sees when the export begins, and when the first sample is taken that is kept, of what both show between two times. It
-    /// answers the data records at hand.
+    /// Sees when the export begins, and when the first sample is taken that is kept, of what both show between two times.
     pub(crate) fn see(
         &mut self,
         original: Stand<'_>,
         export: &FileReader,
         frame: Frame<'_>,
         within: Window,
-    ) -> Hands
-        ensures hands { AreHandsOf original.entry.reader.now original.entry.by.ps
-            export.now ((frame.entry.turn).setting.clock.export).ps result }
-        ensures found { self.new.found ≡ self.old.found }
-    {
+    ) {
         let setting = frame.turn.setting;
         self.take_record(export);
         if setting.claim.keeps_instant(within.from.ps, 1) {
@@ -135,10 +99,6 @@ impl PartSoFar {
             by: setting.clock.export,
         };
         self.moved_ps = there.moved_ps();
-        Hands {
-            original: original.hand(),
-            export: there.hand(),
-        }
     }
 
     /// Where the export starts; none where the original has no sample that is kept.
@@ -163,7 +123,7 @@ pub(crate) struct Under<'a> {
 pub(crate) struct ReadPart {
     pub(crate) header: Header,
     pub(crate) so_far: PartSoFar,
-    pub(crate) tallies: Vec<Tally>,
+    pub(crate) counts: Vec<ChannelCount>,
 }
 
 /// What was seen of an export that was compared.
@@ -183,16 +143,15 @@ impl ComparedPart {
         alloc: Global,
         export: &Header,
         so_far: &PartSoFar,
-        tallies: &[Tally],
+        counts: &[ChannelCount],
         under: Under<'_>,
     ) -> Result<ComparedPart, AllocError>
         requires sorted { AreSorted (under.claim).now.channels under.labels.now }
-        requires tallies { length tallies.now ≡ length under.labels.now }
+        requires counts { length counts.now ≡ length under.labels.now }
         ensures { IfOk result (λ part. AreTold (under.entry.claim).now.channels under.entry.labels.now (record {
           original = (under.entry.original).now;
           export = export.now;
-          tallies = tallies.now;
-          found = so_far.now.found.items;
+          counts = counts.now;
         }) part.channels.items) }
     {
         let headers = (under.original, export);
@@ -201,8 +160,7 @@ impl ComparedPart {
             headers,
             labels: under.labels,
             pairs: &pairs,
-            tallies,
-            found: &so_far.found,
+            counts,
         };
         Ok(ComparedPart {
             channels: counted.channels(alloc, under.claim)?,
@@ -236,15 +194,15 @@ impl PartFindings {
         let ReadPart {
             header,
             so_far,
-            tallies,
+            counts,
         } = part;
-        if tallies.len() != under.labels.len() {
+        if counts.len() != under.labels.len() {
             return Ok(PartFindings {
                 header,
                 compared: None,
             });
         }
-        let compared = ComparedPart::of(alloc, &header, &so_far, &tallies, under)?;
+        let compared = ComparedPart::of(alloc, &header, &so_far, &counts, under)?;
         Ok(PartFindings {
             header,
             compared: Some(compared),

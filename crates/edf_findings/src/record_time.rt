@@ -1,7 +1,4 @@
-//! The data records that are at hand while two files are compared.
-
-ghost use Rattle.std.specs.Prelude.{◌≡◌, IfSome};
-ghost use Rattle.edf_findings.specs.Hands.{IsRecordAt, number_at};
+//! From when to when a data record lasts.
 
 /// From when to when a data record lasts, in picoseconds after the second at which the original starts.
 #[derive(Clone, Copy)]
@@ -29,39 +26,4 @@ impl RecordTime {
             .checked_div_euclid(samples)?;
         Some(self.from_ps.saturating_add(behind_ps))
     }
-}
-
-/// A data record at hand: when it begins, and its number from 0 on; no number where none is at hand.
-#[derive(Clone, Copy)]
-pub(crate) struct Hand {
-    pub(crate) from_ps: i128,
-    pub(crate) number: Option<u32>,
-}
-
-impl Hand {
-    /// None is at hand.
-    pub(crate) const NONE: Hand = Hand {
-        from_ps: 0,
-        number: None,
-    };
-
-    /// The number of the data record, which lasts so long, where a time lies in it.
-    pub(crate) fn record_at(self, duration_ps: i128, at_ps: i128) -> Option<u64>
-        ensures exact { result ≡ number_at self duration_ps at_ps }
-        ensures within { IfSome result (IsRecordAt self duration_ps at_ps) }
-    {
-        let number = self.number?;
-        if self.from_ps <= at_ps && at_ps < self.from_ps.saturating_add(duration_ps) {
-            Some(u64::from(number))
-        } else {
-            None
-        }
-    }
-}
-
-/// The data records at hand of both files.
-#[derive(Clone, Copy)]
-pub(crate) struct Hands {
-    pub(crate) original: Hand,
-    pub(crate) export: Hand,
 }

@@ -2,5 +2,4 @@
 
 pub mod claimed;
 pub mod compared;
-pub mod found_in;
 pub mod kinds;

@@ -1,10 +1,10 @@
 //! Where a file stands that is read: its data record at hand, on the clock of the original.
 
 ghost use Rattle.std.specs.Prelude.{◌≡◌, if◌then◌else◌};
-ghost use Rattle.edf_findings.specs.Hands.{IsHandOf, is_another};
+ghost use Rattle.edf_findings.specs.Gathered.{is_another};
 
 use crate::clock::start_of;
-use crate::record_time::{Hand, RecordTime};
+use crate::record_time::RecordTime;
 use edf_pace::{Offset, Window, begin_ps_of};
 use edf_stream::FileReader;
 
@@ -63,19 +63,6 @@ impl Stand<'_> {
         match self.time() {
             Some(time) => time.from_ps < at_ps,
             None => false,
-        }
-    }
-
-    /// The data record at hand.
-    pub(crate) fn hand(self) -> Hand
-        ensures { IsHandOf self.entry.reader.now self.entry.by.ps result }
-    {
-        if !self.reader.has_current() {
-            return Hand::NONE;
-        }
-        Hand {
-            from_ps: begin_ps_of(self.reader, self.by),
-            number: self.reader.record_count().checked_sub(1),
         }
     }
 

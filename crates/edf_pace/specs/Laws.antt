@@ -8,12 +8,12 @@ use Rattle.edf_pace.specs.Annotations.{SameNotes, note_cmp}
 use Rattle.edf_pace.specs.notes.NoteOrder.{first_unequal_of}
 use Rattle.edf_pace.specs.notes.OnlyInOne.{AreOnlyInOne, first_note, unequals_of}
 use Rattle.edf_samples.specs.Differences.{earliest}
-use Rattle.edf_pace.specs.walk.Counting.{counts_between}
+use Rattle.edf_pace.specs.walk.Counting.{tallies_between}
 use Rattle.edf_pace.specs.walk.Watching.{TwoFiles, first_between}
 
 -- between two times the first difference of two files is the earliest of the first differences that are counted of each channel
 abbrev pub FirstIsCounted : Type 0
-FirstIsCounted = (frame : Frame) (files : TwoFiles) (t u : ℤ) → first_between frame files t u ≡ earliest 0 (map (λ (tally : Tally). tally.first) (counts_between frame files t u))
+FirstIsCounted = (frame : Frame) (files : TwoFiles) (t u : ℤ) → first_between frame files t u ≡ earliest 0 (map (λ (tally : Tally). tally.first) (tallies_between frame files t u))
 
 -- of two lists of annotations in order the first difference is the first that is counted
 abbrev pub FirstNoteIsCounted : Type 0

@@ -6,5 +6,7 @@ pub mod Pairs
 pub mod Readings
 pub mod Windows
 pub mod Watching
+pub mod Spots
+pub mod Hands
 pub mod Counting
 pub mod Ends

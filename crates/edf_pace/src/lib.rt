@@ -25,5 +25,6 @@ pub use walk::track::{Pair, Track, pairs_of};
 pub use walk::turn::{Setting, Turn};
 pub use walk::watchers::counts::Counts;
 pub use walk::watchers::first_found::FirstFound;
+pub use walk::watchers::found_in::{ChannelCount, FoundIn, RecordsAt};
 pub use walk::watchers::onlooker::{Nobody, Onlooker};
 pub use walk::watchers::watcher::{Watch, Watcher};

@@ -18,7 +18,7 @@ use Rattle.edf_pace.specs.walk.Ends.{AreGathered, IsMatched, IsWalked, moved_ori
 use Rattle.edf_pace.specs.walk.Watching.{TwoFiles}
 use Rattle.edf_pace.specs.walk.Readings.{GoesOn, Moves, gathered_so_far}
 use Rattle.edf_pace.specs.declared.walk.reading.Reading.{Reading}
-use Rattle.edf_samples.specs.declared.counts.tally.Tally.{Tally}
+use Rattle.edf_pace.specs.declared.walk.watchers.found_in.ChannelCount.{ChannelCount}
 use Rattle.edf_check.specs.parts.Counted.{IsShown}
 use Rattle.edf_pace.proofs.ForCallers.{other_way}
 
@@ -75,7 +75,7 @@ gathered_less : (turn : Turn) (less : Bool) (o : List ℕ) (h : Head) (notes : L
     → AreGathered turn o h notes e g notes'
 gathered_less turn less o h notes e g notes' m = record { exported = m.exported; kept = m.kept }
 
-pub shown_less : (turn : Turn) (less : Bool) (o : List ℕ) (h : Head) (r : Reading) (e : List ℕ) (g g' : Head) (notes : List NoteValue) (tallies : List Tally) → g ≡ g' → IsShown (record turn { is_compared = less }) o h r e g notes tallies
+pub shown_less : (turn : Turn) (less : Bool) (o : List ℕ) (h : Head) (r : Reading) (e : List ℕ) (g g' : Head) (notes : List NoteValue) (tallies : List ChannelCount) → g ≡ g' → IsShown (record turn { is_compared = less }) o h r e g notes tallies
     → IsShown turn o h r e g' notes tallies
 shown_less turn less o h r e g g' notes tallies same m =
     let P : Head → Type 0 = λ k. IsShown turn o h r e k notes tallies in
@@ -123,6 +123,23 @@ compared-so p looks heads a b = rw (a, b) refl
 pub compared-beside : (p q looks : Bool) → p ≡ true → looks ≡ true → (p && (q || looks)) ≡ true
 compared-beside p true looks a b = rw a refl
 compared-beside p false looks a b = rw (a, b) refl
+
+-- where somebody looks on, a header that differs changes nothing
+pub compared-alike : (p q looks : Bool) → looks ≡ true → (p && (q || looks)) ≡ p
+compared-alike true true looks a = refl
+compared-alike true false looks a = a
+compared-alike false q looks a = refl
+
+-- a part was compared where its turn says so and it didn't begin early
+pub compared-later : (p early : Bool) → p ≡ true → early ≡ false → (p && not early) ≡ true
+compared-later p early a b = rw (a, b) refl
+
+pub compared-early : (p early : Bool) → early ≡ true → (p && not early) ≡ false
+compared-early true early a = rw a refl
+compared-early false early a = refl
+
+pub not-compared : (p early : Bool) → p ≡ false → (p && not early) ≡ false
+not-compared p early a = rw a refl
 
 -- ---- who looks on
 

@@ -1,6 +1,7 @@
 -- A part that was read, and those behind it.
-use Rattle.std.proofs.Common.{◌≡◌, ℕ, ◌+◌, ℤ, Bool, true, false, not, ◌&&◌, is_some, if◌then◌else◌, Bor, List, [], ◌∷◌, ◌++◌, map, Option, None, Some, refl, arith, sym, ap, ◌∙◌, subst, append_assoc}
-use Rattle.std.proofs.lemmas.List.{append-nil}
+use Rattle.std.proofs.Common.{◌≡◌, ℕ, suc, ◌+◌, ℤ, ◌<ℤ◌, ◌≤ℤ◌, int_lt, Bool, true, false, not, ◌&&◌, is_some, if◌then◌else◌, Bor, List, [], ◌∷◌, ◌++◌, length, map, Option, None, Some, refl, arith, sym, ap, ◌∙◌, subst, append_assoc}
+use Rattle.std.proofs.lemmas.Int.{ints}
+use Rattle.std.proofs.lemmas.List.{append-nil, length-map}
 use Rattle.std.specs.Option.{option_or}
 use Rattle.edf_claim.specs.ClaimValues.{ClaimValue}
 use Rattle.edf_header.specs.Heads.{Head}
@@ -23,20 +24,20 @@ use Rattle.edf_check.specs.parts.PartsFound.{IsEarlyFound, first_of, found_with,
 use Rattle.edf_check.specs.parts.Ends.{IsPartRead, is_same}
 use Rattle.edf_pace.specs.walk.Ends.{IsFaultBy, moved_export, moved_original}
 use Rattle.edf_check.specs.parts.Together.{AreRead, HaveFault, gathered_of_all, serial_difference}
-use Rattle.edf_samples.specs.declared.counts.tally.Tally.{Tally}
-use Rattle.edf_samples.specs.declared.times.Time.{Time}
-use Rattle.edf_check.specs.parts.Counted.{AreGatheredBehind, count_of, serial_counts}
+use Rattle.edf_samples.proofs.ForCallers.{by_test}
+use Rattle.edf_check.specs.declared.parts.part.Course.{Course}
+use Rattle.edf_check.specs.parts.Counted.{AreGatheredBehind, count_of, serial_counts, turn_counts, uncounted, was_compared}
 use Rattle.edf_pace.specs.declared.walk.reading.Reading.{Reading}
 use Rattle.edf_pace.specs.walk.Ends.{AreGathered}
 use Rattle.edf_pace.specs.walk.Gathered.{gathered_of}
 use Rattle.edf_pace.specs.walk.Readings.{gathered_so_far}
-use Rattle.edf_pace.specs.walk.Watching.{ExportCount}
+use Rattle.edf_pace.specs.walk.Watching.{ExportCount, two_files}
 use Rattle.edf_stream.specs.annotation.NotesReading.{notes_of}
-use Rattle.edf_pace.specs.walk.Counting.{span_counts}
+use Rattle.edf_pace.specs.walk.Counting.{span_found}
 use Rattle.edf_pace.specs.walk.Pairs.{places_in}
-use Rattle.edf_pace.specs.walk.Shown.{last_end_by}
+use Rattle.edf_pace.specs.walk.Shown.{begin_by, last_end_by}
 use Rattle.edf_pace.specs.walk.Windows.{sampled, span_difference, is_last}
-use Rattle.edf_check.proofs.parts.CompareFacts.{and-left, and-right, not-true}
+use Rattle.edf_check.proofs.parts.CompareFacts.{and-left, and-right, compared-early, compared-later, not-compared, not-true}
 use Rattle.edf_check.proofs.parts.FoundFacts.{conform_more, early_more, fault_here, fault_later, faultless_part, heads_more}
 
 -- ---- nothing was found before
@@ -169,42 +170,130 @@ fault_behind o h left first part parts (faults.Part other fault) c p = (p.0, fau
 
 -- ---- what was counted
 
+lt-true : (a b : ℤ) → a <ℤ b → int_lt a b ≡ true
+lt-true a b l = by_test (int_lt a b) (λ x. x ≡ true) (λ e. refl) (λ e. absurd (omega (arith, ints, e, l)))
+
+lt-false : (a b : ℤ) → b ≤ℤ a → int_lt a b ≡ false
+lt-false a b l = by_test (int_lt a b) (λ x. x ≡ false) (λ e. absurd (omega (arith, ints, e, l))) (λ e. refl)
+
+-- a part that begins early, and those behind it, aren't compared
+serial_early : (claim : ClaimValue) (o : List ℕ) (h : Head) (a b : ℤ) (labels : List (Bor (List ℕ))) (t : ℤ) (part : List ℕ) (parts : List (List ℕ)) → begin_by part (head_of part) b 0 <ℤ t
+    → serial_counts claim o h a b labels t (part ∷ parts) ≡ uncounted (part ∷ parts)
+serial_early claim o h a b labels t part parts early = rw (lt-true (begin_by part (head_of part) b 0) t early) refl
+
+-- one that doesn't is compared
+pub serial_later : (claim : ClaimValue) (o : List ℕ) (h : Head) (a b : ℤ) (labels : List (Bor (List ℕ))) (t : ℤ) (part : List ℕ) (parts : List (List ℕ)) → t ≤ℤ begin_by part (head_of part) b 0
+    → serial_counts claim o h a b labels t (part ∷ parts)
+    ≡ count_of part (span_found (is_last parts) claim (two_files o h part (head_of part)) a b (places_in h (head_of part) labels) t (last_end_by part (head_of part) b))
+    ∷ serial_counts claim o h a b labels (last_end_by part (head_of part) b) parts
+serial_later claim o h a b labels t part parts later = rw (lt-false (begin_by part (head_of part) b 0) t later) refl
+
+-- there is a count of each part
+pub counted_each : (claim : ClaimValue) (o : List ℕ) (h : Head) (a b : ℤ) (labels : List (Bor (List ℕ))) (t : ℤ) (parts : List (List ℕ)) → length (serial_counts claim o h a b labels t parts) ≡ length parts
+counted_each claim o h a b labels t [] = refl
+counted_each claim o h a b labels t (part ∷ parts) =
+    let v = last_end_by part (head_of part) b in
+    let first = count_of part (span_found (is_last parts) claim (two_files o h part (head_of part)) a b (places_in h (head_of part) labels) t v) in
+    by_test (int_lt (begin_by part (head_of part) b 0) t) (λ x. length (if x then uncounted (part ∷ parts) else first ∷ serial_counts claim o h a b labels v parts) ≡ length (part ∷ parts))
+    (λ e. length-map (part ∷ parts) (λ (file : List ℕ). count_of file [])) (λ e. ap suc (counted_each claim o h a b labels v parts))
+
+-- ---- of a part and those behind it in its turn
+
+turn_compared : (turn : Turn) (o : List ℕ) (h : Head) (parts : List (List ℕ)) → turn.is_compared ≡ true
+    → turn_counts turn o h parts ≡ serial_counts ((turn.setting).claim).now o h (moved_original turn) (moved_export turn) ((turn.setting).labels).now (turn.from).ps parts
+turn_compared turn o h parts is = rw is refl
+
+turn_without : (turn : Turn) (o : List ℕ) (h : Head) (parts : List (List ℕ)) → turn.is_compared ≡ false → turn_counts turn o h parts ≡ uncounted parts
+turn_without turn o h parts is = rw is refl
+
+-- where it wasn't compared, none of them is
+turn_uncounted : (turn : Turn) (course : Course) (o : List ℕ) (h : Head) (e : List ℕ) (parts : List (List ℕ)) → (course.is_early ≡ true → begin_by e (head_of e) (moved_export turn) 0 <ℤ (turn.from).ps)
+    → was_compared turn course ≡ false → turn_counts turn o h (e ∷ parts) ≡ uncounted (e ∷ parts)
+turn_uncounted turn course o h e parts early not-so = by turn.is_compared course.is_early refl refl
+  where
+    by : (compared flag : Bool) → turn.is_compared ≡ compared → course.is_early ≡ flag → turn_counts turn o h (e ∷ parts) ≡ uncounted (e ∷ parts)
+    by false is c x = turn_without turn o h (e ∷ parts) c
+    by true true c x = turn_compared turn o h (e ∷ parts) c
+        ∙ serial_early ((turn.setting).claim).now o h (moved_original turn) (moved_export turn) ((turn.setting).labels).now (turn.from).ps e parts (early x)
+    by true false c x = absurd (let z : true ≡ false = sym (compared-later turn.is_compared course.is_early c x) ∙ not-so in cc)
+
+-- where it was, so is the next one if it doesn't begin early
+turn_counted : (turn : Turn) (o : List ℕ) (h : Head) (e : List ℕ) (parts : List (List ℕ)) → (turn.from).ps ≤ℤ begin_by e (head_of e) (moved_export turn) 0 → turn.is_compared ≡ true → turn_counts turn o h (e ∷ parts)
+    ≡ count_of e (span_found (is_last parts) ((turn.setting).claim).now (two_files o h e (head_of e)) (moved_original turn) (moved_export turn) (places_in h (head_of e) ((turn.setting).labels).now) (turn.from).ps (last_end_by e (head_of e) (moved_export turn)))
+    ∷ serial_counts ((turn.setting).claim).now o h (moved_original turn) (moved_export turn) ((turn.setting).labels).now (last_end_by e (head_of e) (moved_export turn)) parts
+turn_counted turn o h e parts later is = turn_compared turn o h (e ∷ parts) is
+    ∙ serial_later ((turn.setting).claim).now o h (moved_original turn) (moved_export turn) ((turn.setting).labels).now (turn.from).ps e parts later
+
+-- what was counted of one part, compared
+abbrev counted_in : Turn → Bool → List ℕ → Head → List ℕ → ExportCount
+counted_in turn last o h e = count_of e (span_found last ((turn.setting).claim).now (two_files o h e (head_of e)) (moved_original turn) (moved_export turn) (places_in h (head_of e) ((turn.setting).labels).now) (turn.from).ps (last_end_by e (head_of e) (moved_export turn)))
+
 -- of the last part
-pub counted_last : (turn : Turn) (last : Bool) (o : List ℕ) (h : Head) (e : List ℕ) (parts : List (List ℕ)) (before behind : List ExportCount) → last ≡ true → parts ≡ []
-    → behind ≡ before ++ (count_of e (span_counts last ((turn.setting).claim).now (sampled o h (moved_original turn)) (sampled e (head_of e) (moved_export turn)) (places_in h (head_of e) ((turn.setting).labels).now) (turn.from).ps (last_end_by e (head_of e) (moved_export turn))) ∷ [])
-    → behind ≡ before ++ serial_counts ((turn.setting).claim).now o h (moved_original turn) (moved_export turn) ((turn.setting).labels).now (turn.from).ps (e ∷ parts)
-counted_last turn last o h e parts before behind is none here =
-    let claim = ((turn.setting).claim).now in
-    let a = moved_original turn in
-    let b = moved_export turn in
-    let labels = ((turn.setting).labels).now in
-    let t = (turn.from).ps in
-    let F : Bool → Type 0 = λ l. behind ≡ before ++ (count_of e (span_counts l claim (sampled o h a) (sampled e (head_of e) b) (places_in h (head_of e) labels) t (last_end_by e (head_of e) b)) ∷ []) in
-    let P : List (List ℕ) → Type 0 = λ all. behind ≡ before ++ serial_counts claim o h a b labels t (e ∷ all) in
-    subst P (sym none) (subst F is here)
+pub counted_last : (turn : Turn) (last : Bool) (course : Course) (o : List ℕ) (h : Head) (e : List ℕ) (parts : List (List ℕ)) (before behind : List ExportCount) → last ≡ true → parts ≡ []
+    → (course.is_early ≡ true → begin_by e (head_of e) (moved_export turn) 0 <ℤ (turn.from).ps) → (course.is_early ≡ false → (turn.from).ps ≤ℤ begin_by e (head_of e) (moved_export turn) 0)
+    → (turn.is_compared ≡ true → course.is_early ≡ false → behind ≡ before ++ (counted_in turn last o h e ∷ [])) → (was_compared turn course ≡ false → behind ≡ before ++ uncounted (e ∷ []))
+    → behind ≡ before ++ turn_counts turn o h (e ∷ parts)
+counted_last turn last course o h e parts before behind is none early later here without = subst P (sym none) (by turn.is_compared course.is_early refl refl)
+  where
+    P : List (List ℕ) → Type 0
+    P all = behind ≡ before ++ turn_counts turn o h (e ∷ all)
+
+    apart : was_compared turn course ≡ false → P []
+    apart w = without w ∙ ap (λ ts. before ++ ts) (sym (turn_uncounted turn course o h e [] early w))
+
+    by : (compared flag : Bool) → turn.is_compared ≡ compared → course.is_early ≡ flag → P []
+    by false x c y = apart (not-compared turn.is_compared course.is_early c)
+    by true true c y = apart (compared-early turn.is_compared course.is_early y)
+    by true false c y = here c y ∙ ap (λ l. before ++ (counted_in turn l o h e ∷ [])) is ∙ ap (λ ts. before ++ ts) (sym (turn_counted turn o h e [] (later y) c))
 
 -- of a part, and of those behind it
-pub counted_more : (turn : Turn) (last : Bool) (o : List ℕ) (h k : Head) (e : List ℕ) (parts more : List (List ℕ)) (end : Time) (before mid behind : List ExportCount) → last ≡ false → is_last more ≡ false → k ≡ h
-    → end.ps ≡ last_end_by e (head_of e) (moved_export turn) → parts ≡ more
-    → mid ≡ before ++ (count_of e (span_counts last ((turn.setting).claim).now (sampled o h (moved_original turn)) (sampled e (head_of e) (moved_export turn)) (places_in h (head_of e) ((turn.setting).labels).now) (turn.from).ps (last_end_by e (head_of e) (moved_export turn))) ∷ [])
-    → behind ≡ mid ++ serial_counts ((turn.setting).claim).now o k (moved_original turn) (moved_export turn) ((turn.setting).labels).now end.ps more
-    → behind ≡ before ++ serial_counts ((turn.setting).claim).now o h (moved_original turn) (moved_export turn) ((turn.setting).labels).now (turn.from).ps (e ∷ parts)
-counted_more turn last o h k e parts more end before mid behind is some head ends same here rest =
-    let claim = ((turn.setting).claim).now in
-    let a = moved_original turn in
-    let b = moved_export turn in
-    let labels = ((turn.setting).labels).now in
-    let t = (turn.from).ps in
-    let v = last_end_by e (head_of e) b in
-    let first : Bool → ExportCount = λ l. count_of e (span_counts l claim (sampled o h a) (sampled e (head_of e) b) (places_in h (head_of e) labels) t v) in
-    let P : List (List ℕ) → Type 0 = λ all. behind ≡ before ++ serial_counts claim o h a b labels t (e ∷ all) in
-    subst P (sym same)
-    (rest
-    ∙ ap (λ x. mid ++ serial_counts claim o x a b labels end.ps more) head
-    ∙ ap (λ x. mid ++ serial_counts claim o h a b labels x more) ends
-    ∙ ap (λ ts. ts ++ serial_counts claim o h a b labels v more) here
-    ∙ append_assoc before (first last ∷ []) (serial_counts claim o h a b labels v more)
-    ∙ ap (λ l. before ++ (first l ∷ serial_counts claim o h a b labels v more)) (is ∙ sym some))
+pub counted_more : (turn : Turn) (last : Bool) (part : PartRead) (o : List ℕ) (h k : Head) (e : List ℕ) (parts more : List (List ℕ)) (before mid behind : List ExportCount) → last ≡ false → is_last more ≡ false → k ≡ h → parts ≡ more
+    → ((part.course).end).ps ≡ last_end_by e (head_of e) (moved_export turn) → (part.course).is_beside ≡ was_compared turn part.course
+    → ((part.course).is_early ≡ true → begin_by e (head_of e) (moved_export turn) 0 <ℤ (turn.from).ps) → ((part.course).is_early ≡ false → (turn.from).ps ≤ℤ begin_by e (head_of e) (moved_export turn) 0)
+    → (turn.is_compared ≡ true → (part.course).is_early ≡ false → mid ≡ before ++ (counted_in turn last o h e ∷ [])) → (was_compared turn part.course ≡ false → mid ≡ before ++ uncounted (e ∷ []))
+    → behind ≡ mid ++ turn_counts (next_turn turn last part (part.course).is_beside) o k more
+    → behind ≡ before ++ turn_counts turn o h (e ∷ parts)
+counted_more turn last part o h k e parts more before mid behind is some head same ends goes early later here without rest = subst P (sym same) (by turn.is_compared (part.course).is_early refl refl)
+  where
+    next : Turn
+    next = next_turn turn last part (part.course).is_beside
+
+    claim : ClaimValue
+    claim = ((turn.setting).claim).now
+
+    a : ℤ
+    a = moved_original turn
+
+    b : ℤ
+    b = moved_export turn
+
+    labels : List (Bor (List ℕ))
+    labels = ((turn.setting).labels).now
+
+    v : ℤ
+    v = last_end_by e (head_of e) b
+
+    P : List (List ℕ) → Type 0
+    P all = behind ≡ before ++ turn_counts turn o h (e ∷ all)
+
+    apart : was_compared turn part.course ≡ false → P more
+    apart w = rest
+        ∙ ap (λ ts. mid ++ ts) (turn_without next o k more (goes ∙ w))
+        ∙ ap (λ ts. ts ++ uncounted more) (without w)
+        ∙ append_assoc before (uncounted (e ∷ [])) (uncounted more)
+        ∙ ap (λ ts. before ++ ts) (sym (turn_uncounted turn part.course o h e more early w))
+
+    by : (compared flag : Bool) → turn.is_compared ≡ compared → (part.course).is_early ≡ flag → P more
+    by false x c y = apart (not-compared turn.is_compared (part.course).is_early c)
+    by true true c y = apart (compared-early turn.is_compared (part.course).is_early y)
+    by true false c y = rest
+        ∙ ap (λ ts. mid ++ ts) (turn_compared next o k more (goes ∙ compared-later turn.is_compared (part.course).is_early c y))
+        ∙ ap (λ x. mid ++ serial_counts claim o x a b labels ((part.course).end).ps more) head
+        ∙ ap (λ x. mid ++ serial_counts claim o h a b labels x more) ends
+        ∙ ap (λ ts. ts ++ serial_counts claim o h a b labels v more) (here c y)
+        ∙ append_assoc before (counted_in turn last o h e ∷ []) (serial_counts claim o h a b labels v more)
+        ∙ ap (λ l. before ++ (counted_in turn l o h e ∷ serial_counts claim o h a b labels v more)) (is ∙ sym some)
+        ∙ ap (λ ts. before ++ ts) (sym (turn_counted turn o h e more (later y) c))
 
 -- ---- what was gathered
 

@@ -283,20 +283,19 @@ not-early by t first parts (Some part) is near zero' cs follow e =
     absurd (omega (arith, ints, before, order))
 
 pub counted_together : (turn : Turn) (o : List ℕ) (h k : Head) (left : List ℕ) (notes : List NoteValue) (parts lefts : List (List ℕ)) (before behind : Exported) (found : PartsFound) (held now : List ExportCount) → AreRead turn o h left notes parts lefts before behind found
-    → (turn.from).ps ≡ neg_ℤ (pos (2 ^ 90)) → turn.part ≡ 0 → h ≡ head_of o → k ≡ head_of o → IsSetting k turn.setting → FollowOneAnother parts
-    → (found.early ≡ None → Conforms o h → now ≡ held ++ serial_counts ((turn.setting).claim).now o h (moved_original turn) (moved_export turn) ((turn.setting).labels).now (turn.from).ps parts)
+    → (turn.from).ps ≡ neg_ℤ (pos (2 ^ 90)) → h ≡ head_of o → k ≡ head_of o → IsSetting k turn.setting
+    → (Conforms o h → now ≡ held ++ serial_counts ((turn.setting).claim).now o h (moved_original turn) (moved_export turn) ((turn.setting).labels).now (turn.from).ps parts)
     → AreCounted o parts ((turn.setting).claim).now held now
-counted_together turn o h k left notes parts lefts before behind found held now r is zero' head head' setting follow counted =
+counted_together turn o h k left notes parts lefts before behind found held now r is head head' setting counted =
     let claim = ((turn.setting).claim).now in
     let labels = ((turn.setting).labels).now in
     let clock = setting.clock in
-    let early = not-early (moved_export turn) (turn.from).ps turn.part parts found.early is (((turn.setting).clock).export).near zero' r.conform follow r.early_is in
     let a : moved_original turn ≡ neg_ℤ (origin_of o) = clock.original ∙ ap (λ x. neg_ℤ (file_start x)) head' in
     let b : moved_export turn ≡ neg_ℤ (origin_of o +ℤ shift_ps claim) = clock.export ∙ ap (λ x. neg_ℤ (file_start x +ℤ shift_ps claim)) head' in
     record {
       labels = labels;
       sorted = setting.sorted;
-      are = counted early (r.through).conforms
+      are = counted (r.through).conforms
           ∙ ap (λ x. held ++ serial_counts claim o x (moved_original turn) (moved_export turn) labels (turn.from).ps parts) head
           ∙ ap (λ x. held ++ serial_counts claim o (head_of o) x (moved_export turn) labels (turn.from).ps parts) a
           ∙ ap (λ x. held ++ serial_counts claim o (head_of o) (neg_ℤ (origin_of o)) x labels (turn.from).ps parts) b
@@ -331,12 +330,9 @@ none_faulty o parts (faults.Part part fault) all is =
     let f = is.1 in
     no-fault f.file fault f.fault_is (faultless_part f.file (all.parts_conform f.file (has-at parts f.at f.file (f.is).there)))
 
--- one export conforms and follows no other
+-- one export conforms
 pub one_conforms : (o e : List ℕ) → Conforms o (head_of o) → Conforms e (head_of e) → AllConform o (e ∷ [])
 one_conforms o e co ce = record {
   original_conforms = co;
   parts_conform = λ part i. (let P : List ℕ → Type 0 = λ f. Conforms f (head_of f) in elim i [ inl same ↦ subst P same ce | inr none ↦ absurd none ]);
 }
-
-pub one_follows : (e : List ℕ) → FollowOneAnother (e ∷ [])
-one_follows e j part next there behind = absurd (let z : None ≡ Some next = subst (λ k. slice_get (e ∷ []) k ≡ Some next) (plus-one j) behind in cc)

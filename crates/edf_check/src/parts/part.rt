@@ -6,7 +6,7 @@ ghost use Rattle.edf_pace.specs.PartsStops.{StopsOfTwo};
 ghost use Rattle.edf_check.specs.parts.PartsVerdicts.{samples_in};
 ghost use Rattle.edf_pace.specs.Premises.{IfFaulty, IfRead};
 ghost use Rattle.edf_check.specs.parts.Ends.{FaultyOver, IsReady, PartFaultBy, PartFaulty, PartMatched, PartPassed, PartReadBy, PartStays, PartThrough, PassedOver, PassesBehind, PassesPart, Stays, ThroughOver, TurnEnded, TurnMatched, TurnThrough};
-ghost use Rattle.edf_check.specs.parts.Counted.{PartCounted, PartCountedBy, StaysBeside, TurnCounted};
+ghost use Rattle.edf_check.specs.parts.Counted.{IsUncounted, PartCounted, PartCountedBy, PartUncountedBy, StaysBeside, TurnCounted};
 ghost use Rattle.edf_pace.specs.walk.Ends.{FaultyOn, IsFoundAmong};
 ghost use Rattle.edf_pace.specs.walk.Readings.{HasGoneOn};
 ghost use Rattle.edf_pace.specs.walk.Shown.{IfAtHand, IsAhead, IsGoing, StandsAt, begins_at};
@@ -118,7 +118,7 @@ fn compare_on<O: Source, E: Source, L: Onlooker>(
     ensures beside { IfRead result (StaysBeside (L.looks shown.old.onlooker.now) shown.old.turn) }
     ensures counted { IfRead result (λ c. TurnCounted O.Source E.Source original.old o.old original.new
         export.old e.old export.new shown.old.turn (L.looks shown.old.onlooker.now)
-        (L.tallies shown.new.onlooker.now)) }
+        (L.counts shown.new.onlooker.now)) }
     ensures fault { IfFaulty result (FaultyOn O.Source E.Source original.old o.old o.new export.old e.old
         shown.old.turn) }
     ensures failures { OnOk result ((O.reads o.new ≡ O.reads o.old) × (E.reads e.new ≡ E.reads e.old)) }
@@ -201,7 +201,9 @@ fn compare<O: Source, E: Source, L: Onlooker>(
     ensures beside { IfRead result (StaysBeside (L.looks shown.old.onlooker.now) shown.old.turn) }
     ensures counted { IfRead result (PartCounted O.Source E.Source original.old o.old original.new export.old
         e.old export.new shown.old.turn (L.looks shown.old.onlooker.now)
-        (L.tallies shown.new.onlooker.now)) }
+        (L.counts shown.new.onlooker.now)) }
+    ensures uncounted { IfRead result (IsUncounted (L.looks shown.old.onlooker.now) shown.old.turn
+        (L.counts shown.new.onlooker.now)) }
     ensures fault { IfFaulty result (PartFaulty O.Source E.Source original.old o.old o.new export.old e.old
         shown.old.turn) }
     ensures failures { OnOk result ((O.reads o.new ≡ O.reads o.old) × (E.reads e.new ≡ E.reads e.old)) }
@@ -231,6 +233,7 @@ fn compare<O: Source, E: Source, L: Onlooker>(
             Err(stop) => Err(stop),
         };
     }
+    shown.onlooker.begin_without();
     match end_both(&mut original.reader, o, &mut export.reader, e, turn) {
         Ok(Ok(end)) => Ok(Ok(Course {
             is_early: true,
@@ -321,7 +324,9 @@ fn read_course<O: Source, E: Source, L: Onlooker>(
     ensures beside { IfRead result (StaysBeside (L.looks shown.old.onlooker.now) shown.old.turn) }
     ensures counted { IfRead result (PartCounted O.Source E.Source original.old o.old original.new export.old
         e.old export.new shown.old.turn (L.looks shown.old.onlooker.now)
-        (L.tallies shown.new.onlooker.now)) }
+        (L.counts shown.new.onlooker.now)) }
+    ensures uncounted { IfRead result (IsUncounted (L.looks shown.old.onlooker.now) shown.old.turn
+        (L.counts shown.new.onlooker.now)) }
     ensures fault { IfFaulty result (PartFaulty O.Source E.Source original.old o.old o.new export.old e.old
         shown.old.turn) }
     ensures failures { OnOk result ((O.reads o.new ≡ O.reads o.old) × (E.reads e.new ≡ E.reads e.old)) }
@@ -331,6 +336,7 @@ fn read_course<O: Source, E: Source, L: Onlooker>(
     if shown.turn.is_compared {
         compare(original, o, export, e, shown)
     } else {
+        shown.onlooker.begin_without();
         pass_over(&mut original.reader, o, &mut export.reader, e, shown.turn)
     }
 }
@@ -363,6 +369,8 @@ pub(crate) fn read_part<O: Source, E: Source, L: Onlooker>(
     ensures beside { IfRead result (λ p. StaysBeside (L.looks onlooker.old) turn.entry p.course) }
     ensures counted { IfRead result (PartCountedBy O.Source E.Source turn.entry original.old o.old original.new
         e.old (L.looks onlooker.old) (L.counted onlooker.old) (L.counted onlooker.new)) }
+    ensures uncounted { IfRead result (PartUncountedBy E.Source turn.entry e.old (L.looks onlooker.old)
+        (L.counted onlooker.old) (L.counted onlooker.new)) }
     ensures read { IfRead result (PartReadBy O.Source E.Source turn.entry original.old o.old original.new
         o.new e.old e.new) }
     ensures fault { IfFaulty result

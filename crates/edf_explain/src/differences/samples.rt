@@ -8,7 +8,7 @@ use edf_sentences::{FULL_STOP, Piece, Text};
 use std::alloc::AllocError;
 
 /// Puts in which data record a sample stands behind a text.
-fn add_record(text: &mut Text, words: &str, record: Option<u64>) -> Result<(), AllocError> {
+fn add_record(text: &mut Text, words: &str, record: Option<u32>) -> Result<(), AllocError> {
     match record {
         Some(record) => text.add(words, &[Piece::Number(i128::from(record))]),
         None => Ok(()),

@@ -1,21 +1,19 @@
 //! The claimed channels that both files have, with what was counted of each.
 
-ghost use Rattle.std.specs.Prelude.{◌≡◌, map, length, IfOk, IfSome, OnOk, is_some, slice_get, unwrap_or};
+ghost use Rattle.std.specs.Prelude.{◌≡◌, map, length, IfOk, IfSome, OnOk, is_some};
 ghost use Rattle.std.specs.Cmp.Lexicographic.{slice_cmp};
 ghost use Rattle.std.specs.List.Sorted.{IsSorted};
 ghost use Rattle.std.specs.Ordering.{nat_cmp};
 ghost use Rattle.edf_fields.specs.Lists.{Has};
 ghost use Rattle.edf_heads.specs.Comparisons.{AreSorted};
 ghost use Rattle.edf_pace.specs.walk.Pairs.{places_in, places_of};
-ghost use Rattle.edf_findings.specs.Hands.{nowhere_of};
 ghost use Rattle.edf_findings.specs.Told.{AreTold, IsToldAt, Seen, is_in_both, with_one};
 
 use crate::samples::compared::ComparedChannel;
-use crate::samples::found_in::FoundOf;
 use edf_claim::Claim;
 use edf_header::Header;
 use edf_heads::place_among;
-use edf_pace::{Pair, Tally};
+use edf_pace::{ChannelCount, Pair};
 use std::alloc::{AllocError, Global};
 
 /// An original and an export, the labels of a claim in the order of their bytes, and what was counted of each.
@@ -25,8 +23,7 @@ pub(crate) struct CountedLabels<'a> {
     pub(crate) labels: &'a [&'a [u8]],
     /// Where both files have a channel of each label.
     pub(crate) pairs: &'a [Pair],
-    pub(crate) tallies: &'a [Tally],
-    pub(crate) found: &'a [FoundOf],
+    pub(crate) counts: &'a [ChannelCount],
 }
 
 /// Takes in a channel, if there is one.
@@ -44,16 +41,6 @@ fn take_in(
     Ok(())
 }
 
-/// In which data records samples were found of the channel with this place; in none where there is no such place.
-fn found_at(found: &[FoundOf], at: usize) -> FoundOf
-    ensures { result ≡ unwrap_or (slice_get found.now at) nowhere_of }
-{
-    match found.get(at) {
-        Some(found) => *found,
-        None => FoundOf::NONE,
-    }
-}
-
 impl CountedLabels<'_> {
     /// The channel of this label, which has this place in the claim, with what was counted of it; none where one of the files has
     /// no such channel.
@@ -62,27 +49,24 @@ impl CountedLabels<'_> {
         requires listed { Has (map (λ l. l.now) self.labels.now) label.now }
         requires pairs { map places_of self.pairs.now ≡
             places_in (self.headers.0).now (self.headers.1).now self.labels.now }
-        requires tallies { length self.tallies.now ≡ length self.labels.now }
+        requires counts { length self.counts.now ≡ length self.labels.now }
         ensures both { is_some result ≡
             is_in_both (self.entry.headers.0).now (self.entry.headers.1).now label.now }
         ensures place { IfSome result (λ channel. channel.place ≡ place) }
         ensures told { IfSome result (IsToldAt self.entry.labels.now (record {
           original = (self.entry.headers.0).now;
           export = (self.entry.headers.1).now;
-          tallies = self.entry.tallies.now;
-          found = self.entry.found.now;
+          counts = self.entry.counts.now;
         }) label.now) }
     {
         let at = place_among(self.labels, label)?;
         let pair = self.pairs.get(at)?;
-        let tally = self.tallies.get(at)?;
-        let found = found_at(self.found, at);
+        let count = self.counts.get(at)?;
         match (pair.original, pair.export) {
             (Some(here), Some(there)) => Some(ComparedChannel::of(
                 place,
                 (here, there),
-                tally,
-                &found,
+                count,
                 self.headers,
             )),
             _ => None,
@@ -100,12 +84,11 @@ impl CountedLabels<'_> {
         requires sorted { AreSorted claim.now.channels self.labels.now }
         requires pairs { map places_of self.pairs.now ≡
             places_in (self.headers.0).now (self.headers.1).now self.labels.now }
-        requires tallies { length self.tallies.now ≡ length self.labels.now }
+        requires counts { length self.counts.now ≡ length self.labels.now }
         ensures { IfOk result (λ channels. AreTold claim.entry.now.channels self.entry.labels.now (record {
           original = (self.entry.headers.0).now;
           export = (self.entry.headers.1).now;
-          tallies = self.entry.tallies.now;
-          found = self.entry.found.now;
+          counts = self.entry.counts.now;
         }) channels.items) }
     {
         let labels = claim.channels();

@@ -3,12 +3,10 @@
 ghost use Rattle.std.specs.Prelude.{◌≡◌, ◌*◌, ◌-◌, not};
 ghost use Rattle.std.specs.Ordering.{int_eq};
 ghost use Rattle.edf_findings.specs.Exports.{is_clean};
-ghost use Rattle.edf_findings.specs.Told.{AreThose, IsTold, floor_of, records_of, samples_last, spot_of, values_in};
+ghost use Rattle.edf_findings.specs.Told.{AreThose, IsTold, floor_of, samples_last, spot_of, values_in};
 
-use crate::record_time::Hands;
-use crate::samples::found_in::{FoundIn, FoundOf};
 use edf_header::Header;
-use edf_pace::{Counted, PointDifference, Tally, Track};
+use edf_pace::{ChannelCount, Counted, FoundIn, PointDifference, RecordsAt, Track};
 use edf_verdict::SampleMismatch;
 
 /// A sample that isn't as claimed.
@@ -16,10 +14,10 @@ use edf_verdict::SampleMismatch;
 pub struct Spot {
     /// How it differs, and when it was taken, after the second at which the original starts.
     pub difference: PointDifference,
-    /// The data record of the original, of those that were noted with it, in which this time lies, if it lies in one.
-    pub original_record: Option<u64>,
+    /// The data record of the original in which this time lies, counted from 0, if it lies in one.
+    pub original_record: Option<u32>,
     /// The same of the export.
-    pub export_record: Option<u64>,
+    pub export_record: Option<u32>,
 }
 
 /// The time of a difference in picoseconds after the second at which the original starts, rounded down.
@@ -33,34 +31,22 @@ fn floor(difference: PointDifference) -> i128
         .unwrap_or(0)
 }
 
-/// In which data records of files with these headers a time lies, of those at hand.
-fn records_at(
-    hands: Option<Hands>,
-    headers: (&Header, &Header),
-    at_ps: i128,
-) -> (Option<u64>, Option<u64>)
-    ensures { result ≡ records_of hands (headers.entry.0).now (headers.entry.1).now at_ps }
-{
-    let (original, export) = headers;
-    match hands {
-        Some(hands) => (
-            hands.original.record_at(original.duration_ps(), at_ps),
-            hands.export.record_at(export.duration_ps(), at_ps),
-        ),
-        None => (None, None),
-    }
-}
-
 impl Spot {
-    /// That of a difference, found in the data records at hand of files with these headers.
-    fn of(difference: PointDifference, hands: Option<Hands>, headers: (&Header, &Header)) -> Spot
-        ensures { result ≡ spot_of hands (headers.entry.0).now (headers.entry.1).now difference }
+    /// That of a difference that lies in these data records.
+    fn of(difference: PointDifference, records: Option<RecordsAt>) -> Spot
+        ensures { result ≡ spot_of records difference }
     {
-        let (original_record, export_record) = records_at(hands, headers, floor(difference));
-        Spot {
-            difference,
-            original_record,
-            export_record,
+        match records {
+            Some(records) => Spot {
+                difference,
+                original_record: records.original,
+                export_record: records.export,
+            },
+            None => Spot {
+                difference,
+                original_record: None,
+                export_record: None,
+            },
         }
     }
 
@@ -90,17 +76,14 @@ pub struct Samples {
 }
 
 impl Samples {
-    /// Those that were counted, of which the first and the last were found in these data records.
-    fn of(counted: Counted, found: FoundIn, headers: (&Header, &Header)) -> Samples
-        ensures { AreThose found (headers.entry.0).now (headers.entry.1).now counted result }
+    /// Those that were counted, of which the first and the last lie in these data records.
+    fn of(counted: Counted, found: FoundIn) -> Samples
+        ensures { AreThose found counted result }
     {
         let count = counted.count;
         match (counted.first, counted.last) {
             (Some(first), Some(last)) => {
-                let ends = (
-                    Spot::of(first, found.first, headers),
-                    Spot::of(last, found.last, headers),
-                );
+                let ends = (Spot::of(first, found.first), Spot::of(last, found.last));
                 Samples {
                     count,
                     ends: Some(ends),
@@ -153,12 +136,11 @@ fn compared_in(export: &Header, there: Track, extra: u64) -> u64
 }
 
 impl ComparedChannel {
-    /// The channel of the label with this place in the claim, which stands there in both files, with its tally.
+    /// The channel of the label with this place in the claim, which stands there in both files, with what was counted of it.
     pub(crate) fn of(
         place: usize,
         tracks: (Track, Track),
-        tally: &Tally,
-        found: &FoundOf,
+        count: &ChannelCount,
         headers: (&Header, &Header),
     ) -> ComparedChannel
         ensures place { result.place ≡ place }
@@ -166,16 +148,17 @@ impl ComparedChannel {
             not (int_eq (samples_last (headers.entry.0).now.duration ((tracks.1).place).samples)
             (samples_last (headers.entry.1).now.duration ((tracks.0).place).samples)) }
         ensures compared { result.compared ≡
-            (headers.entry.1).now.records * ((tracks.1).place).samples - (tally.now.extra).count }
-        ensures told { IsTold found.now (headers.entry.0).now (headers.entry.1).now tally.now result }
+            (headers.entry.1).now.records * ((tracks.1).place).samples - ((count.now.tally).extra).count }
+        ensures told { IsTold count.now result }
     {
+        let tally = count.tally;
         ComparedChannel {
             place,
             has_other_rate: has_other_rate(headers, tracks),
             compared: compared_in(headers.1, tracks.1, tally.extra.count),
-            missing: Samples::of(tally.missing, found.missing, headers),
-            extra: Samples::of(tally.extra, found.extra, headers),
-            changed: Samples::of(tally.changed, found.changed, headers),
+            missing: Samples::of(tally.missing, count.missing),
+            extra: Samples::of(tally.extra, count.extra),
+            changed: Samples::of(tally.changed, count.changed),
         }
     }
 

@@ -1,2 +1,3 @@
+pub mod SpotFacts
 pub mod CountFacts
 pub mod CountedFacts

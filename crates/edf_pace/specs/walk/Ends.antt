@@ -2,13 +2,13 @@
 -- 00:00:00, then count from the second at which the original starts, before the shift. These are steps between the definitions and the code.
 use Rattle.std.specs.Prelude.{◌≡◌, ℕ, ℤ, ◌<◌, ◌≤ℤ◌, Bool, true, false, List, [], Option, None, Some}
 use Rattle.edf_pace.specs.Words.{Fault, Ghosts, Head, Conforms, body_fault, file_fault, NoteValue, notes_of, Reader, is_current, end_before, Found, Frame, Reading, Time, Window, Turn, FaultOf}
-use Rattle.edf_samples.specs.declared.counts.tally.Tally.{Tally}
+use Rattle.edf_pace.specs.declared.walk.watchers.found_in.ChannelCount.{ChannelCount}
 use Rattle.edf_pace.specs.declared.walk.lockstep.ReadOn.{ReadOn}
 use Rattle.edf_pace.specs.declared.walk.lockstep.Step.{Step}
 use Rattle.edf_pace.specs.declared.walk.fault_of.FaultOf.TheVariants.{Original as OfOriginal, Part as OfPart}
 use Rattle.edf_samples.specs.InstantOrder.{IsModest}
 use Rattle.edf_pace.specs.Premises.{Known, OfFile, OfFiles}
-use Rattle.edf_pace.specs.walk.Counting.{span_counts}
+use Rattle.edf_pace.specs.walk.Counting.{span_found}
 use Rattle.edf_pace.specs.walk.Gathered.{gathered_of}
 use Rattle.edf_pace.specs.walk.Pairs.{places_in}
 use Rattle.edf_pace.specs.walk.Readings.{ExportIn, ExportMoves, OriginalIn, OriginalMoves, export_at, going, original_at}
@@ -147,7 +147,7 @@ pub record IsMatched (turn : Turn) (o : List ℕ) (h : Head) (notes : List NoteV
   pub gathered : found ≡ None → AreGathered turn o h notes e g notes'
 
 -- its samples were counted by channel
-abbrev pub IsCounted : Turn → List ℕ → Head → List ℕ → Head → List Tally → Type 0
-IsCounted turn o h e g tallies = Conforms o h
-    → tallies ≡ span_counts turn.is_last ((turn.setting).claim).now (sampled o h (moved_original turn)) (sampled e g (moved_export turn))
+abbrev pub IsCounted : Turn → List ℕ → Head → List ℕ → Head → List ChannelCount → Type 0
+IsCounted turn o h e g counts = Conforms o h
+    → counts ≡ span_found turn.is_last ((turn.setting).claim).now (two_files o h e g) (moved_original turn) (moved_export turn)
     (places_in h g ((turn.setting).labels).now) (turn.from).ps (last_end_by e g (moved_export turn))

@@ -1,7 +1,7 @@
 -- What a watcher of two files that are read in step gets to see.
 use Rattle.std.specs.Prelude.{◌≡◌, ℕ, ℤ, ◌≤ℤ◌, Bool, List, map, Option}
 use Rattle.edf_pace.specs.Words.{Found, Frame, Head, Note, NoteValue, Reader, Reading, Turn, Window, note_value}
-use Rattle.edf_samples.specs.declared.counts.tally.Tally.{Tally}
+use Rattle.edf_pace.specs.declared.walk.watchers.found_in.ChannelCount.{ChannelCount}
 use Rattle.edf_pace.specs.walk.Pairs.{places_of}
 use Rattle.edf_pace.specs.walk.Shown.{Covers}
 use Rattle.edf_pace.specs.walk.Windows.{sampled, window_difference}
@@ -26,7 +26,7 @@ moved_export turn = ((turn.setting).clock.export).ps
 -- what an onlooker has of an export that was read to its end: its header, and what was counted of each channel
 pub record ExportCount : Type 0 where
   pub head : Head
-  pub tallies : List Tally
+  pub counts : List ChannelCount
 
 -- what it has of all files once the original was read to its end: the original's header, those of its annotations that are kept, and the
 -- annotations of all exports

@@ -174,6 +174,7 @@ pub fn begin_ps_of(reader: &FileReader, by: Offset) -> i128
     requires current { IsTrue (is_current reader.now.status) }
     ensures value { result ≡ begins_at reader.now by.ps }
     ensures before { result <ℤ ends_at reader.now by.ps }
+    ensures small { unsigned_abs result < 2 ^ 83 }
 {
     end_ps_of(reader, by) - reader.header().duration_ps()
 }

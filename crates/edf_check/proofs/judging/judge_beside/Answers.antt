@@ -1,6 +1,7 @@
 use Rattle.std.proofs.Common.{rules, ◌≡◌, ◌∷◌, [], List, MatchOption, Option, subst}
 use Rattle.edf_pace.specs.walk.Watching.{ExportCount, WholeShown}
 use Rattle.edf_check.specs.parts.Counted.{AreCounted, IsCountedOfTwo, IsWhole, looked_on}
+use Rattle.edf_check.specs.parts.Parts.{FollowOneAnother}
 use Rattle.edf_check.proofs.judging.judge_beside.Goals as goal
 
 pub returns-in_ok-check_beside-in-Ok-clause-counted : goal.returns-in_ok-check_beside-in-Ok-clause-counted
@@ -14,7 +15,7 @@ returns-in_ok-check_beside-in-Ok-clause-counted g c =
     let all = c.in_ok-check_beside-in-Ok.ensures.counted looks ho he co ce in
     record {
       counted = subst (AreCounted (g.O.Source.left o) (g.E.Source.left e ∷ []) claim before) is all.counted;
-      whole = subst (λ (w : Option WholeShown). MatchOption w ⊥ (IsWhole (g.O.Source.left o) (g.E.Source.left e ∷ []) claim)) same all.whole;
+      whole = subst (λ (w : Option WholeShown). MatchOption w ⊥ (λ shown. FollowOneAnother (g.E.Source.left e ∷ []) → IsWhole (g.O.Source.left o) (g.E.Source.left e ∷ []) claim shown)) same all.whole;
     }
     in
     (claim, c.in-Ok.ensures.says, there _ _ (search rules) (search rules))

@@ -1,6 +1,6 @@
 use Rattle.edf_check.proofs.HeadlineFacts.{yes_means}
 use Rattle.edf_check.proofs.parts.PartsVerdictFacts.{one_part_verdict}
-use Rattle.edf_check.proofs.parts.TogetherFacts.{one_conforms, one_follows}
+use Rattle.edf_check.proofs.parts.TogetherFacts.{one_conforms}
 use Rattle.edf_check.proofs.of_one.check_beside.Goals as goal
 
 pub returns-in-Ok-clause-verdict : goal.returns-in-Ok-clause-verdict
@@ -15,4 +15,4 @@ pub returns-in-Ok-clause-counted : goal.returns-in-Ok-clause-counted
 returns-in-Ok-clause-counted g c = λ looks first second co ce.
     let o = g.O.Source.left c.args.original.now in
     let e = g.E.Source.left c.args.export.now in
-    c.in-Ok.ensures.counted looks first (second, tt) (one_conforms o e co ce) (one_follows e)
+    c.in-Ok.ensures.counted looks first (second, tt) (one_conforms o e co ce)

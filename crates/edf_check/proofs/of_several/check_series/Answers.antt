@@ -6,6 +6,7 @@ use Rattle.edf_pace.specs.walk.Watching.{WholeShown}
 use Rattle.std.specs.List.{AllByRecursion}
 use Rattle.edf_check.specs.Checks.{AreRead}
 use Rattle.edf_pace.specs.declared.walk.fault_of.FaultOf.TheVariants as faults
+use Rattle.edf_check.specs.parts.Parts.{FollowOneAnother}
 use Rattle.edf_check.specs.parts.PartsVerdicts.{IsPartsVerdict}
 use Rattle.edf_check.proofs.parts.LeftFacts.{read_all, read_fault}
 use Rattle.edf_check.specs.parts.Counted.{AreCounted, IsWhole}
@@ -59,17 +60,17 @@ returns-in-Ok-Err-walk_parts-clause-read g c = λ ho he.
     subst (λ v. AllByRecursion (AreRead v.verdict left) lefts) (sym c.verdict-in-Ok-Err-walk_parts.ensures) (read_fault c.in-Ok-Err-walk_parts.fault left lefts fault.1)
 
 pub returns-in-Ok-Err-clause-counted : goal.returns-in-Ok-Err-clause-counted
-returns-in-Ok-Err-clause-counted g c = λ looks ho he all follow.
+returns-in-Ok-Err-clause-counted g c = λ looks ho he all.
     let fault = rw c.in-Ok-Err.field-0-is at c.in-Ok-Err.ensures.fault in
     absurd (none_faulty (g.O.Source.left c.args.original.now) (g.E.Source.left c.args.part.now ∷ map g.E.Source.left c.args.others.now) (faults.Original c.in-Ok-Err.fault) all (fault ho))
 
 pub returns-in-Ok-Ok-walk_parts-clause-counted : goal.returns-in-Ok-Ok-walk_parts-clause-counted
-returns-in-Ok-Ok-walk_parts-clause-counted g c = λ looks ho he all follow.
+returns-in-Ok-Ok-walk_parts-clause-counted g c = λ looks ho he all.
     let stands = rw c.in-Ok-Ok.field-0-is at c.in-Ok-Ok.ensures.stands in
     let honesty = rw c.in-Ok-Ok.field-0-is at c.in-Ok-Ok.ensures.honesty in
     let o = g.O.Source.left c.args.original.now in
     let parts = g.E.Source.left c.args.part.now ∷ map g.E.Source.left c.args.others.now in
-    let counted = (rw c.in-Ok-Ok-walk_parts.field-0-is at c.in-Ok-Ok-walk_parts.ensures.counted) looks (honesty ho) o (stands ho) he follow in
+    let counted = (rw c.in-Ok-Ok-walk_parts.field-0-is at c.in-Ok-Ok-walk_parts.ensures.counted) looks (honesty ho) o (stands ho) he in
     let claim = c.args.asked.now.claim.now in
     let whole : WholeShown = record {
       head = (c.walk_parts.new.so_far.original.reader).head;
@@ -79,11 +80,12 @@ returns-in-Ok-Ok-walk_parts-clause-counted g c = λ looks ho he all follow.
     let given : g.L.Onlooker.looks c.walk_parts.new.stage.onlooker.now ≡ true → g.L.Onlooker.shown c.take_original.new.self ≡ Some whole =
     search rules in
     let shown = given (c.walk_parts.ensures.looks ∙ looks) in
-    let all = counted.1 in
     record {
       counted = subst (AreCounted o parts claim (g.L.Onlooker.counted c.args.asked.now.onlooker.now)) (sym c.take_original.ensures.counted) counted.0;
-      whole = subst (λ s. MatchOption s ⊥ (IsWhole o parts claim)) (sym shown)
-          (record {
+      whole = subst (λ s. MatchOption s ⊥ (λ w. FollowOneAnother parts → IsWhole o parts claim w)) (sym shown)
+          (λ follow.
+          let all = counted.1 follow in
+          record {
             head = all.head;
             kept = subst (λ ns. IsPermutation ns (map note_value c.conclude_parts.new.kept.items)) all.kept_are (IsPermutation-map note_value _ _ c.in_ok-verdict-in-Ok-Ok-walk_parts.ensures.kept);
             exported = subst (λ ns. IsPermutation ns (map note_value (c.conclude_parts.new.exported.notes).items)) all.exported_are (IsPermutation-map note_value _ _ c.in_ok-verdict-in-Ok-Ok-walk_parts.ensures.exported);
@@ -91,7 +93,7 @@ returns-in-Ok-Ok-walk_parts-clause-counted g c = λ looks ho he all follow.
     }
 
 pub returns-in-Ok-Err-walk_parts-clause-counted : goal.returns-in-Ok-Err-walk_parts-clause-counted
-returns-in-Ok-Err-walk_parts-clause-counted g c = λ looks ho he all follow.
+returns-in-Ok-Err-walk_parts-clause-counted g c = λ looks ho he all.
     let stands = rw c.in-Ok-Ok.field-0-is at c.in-Ok-Ok.ensures.stands in
     let honesty = rw c.in-Ok-Ok.field-0-is at c.in-Ok-Ok.ensures.honesty in
     let o = g.O.Source.left c.args.original.now in

@@ -22,10 +22,10 @@ returns-clause-found g c =
     if-some c.in_ok-found.found (λ found are. (looker, counted, are)) c.in_ok-found.ensures.found
 
 pub returns-clause-some : goal.returns-clause-some
-returns-clause-some g c = λ ho he all follow.
+returns-clause-some g c = λ ho he all.
     let looker = c.judge_parts_beside.new.onlooker in
     let under = c.in_ok-verdict.ensures.counted in
     let counted = subst (λ (before : List ExportCount). AreCountedOfAll g.O.Source g.E.Source c.args.original.now c.args.parts.now under.0 true (looked_on before (counted_by looker) (shown_by looker))) c.new-looker.ensures.counted under.2 in
     let some = subst (λ (n : ℕ). 0 < n) (sym (length-map c.args.parts.now g.E.Source.left)) c.requires.some in
-    let there = has-some looker (g.O.Source.left c.args.original.now) (map g.E.Source.left c.args.parts.now) under.0 some (counted refl ho he all follow) in
+    let there = has-some looker (g.O.Source.left c.args.original.now) (map g.E.Source.left c.args.parts.now) under.0 some (counted refl ho he all) in
     subst IsTrue (sym c.in_ok-found.ensures.some) there

@@ -15,13 +15,14 @@ use Rattle.edf_samples.specs.declared.counts.tally.Tally.{Tally}
 use Rattle.edf_pace.specs.declared.walk.channel_place.ChannelPlace.{ChannelPlace}
 use Rattle.edf_pace.specs.declared.walk.frame.Frame.{Frame}
 use Rattle.edf_pace.specs.declared.walk.lockstep.ReadOn.{ReadOn}
-use Rattle.edf_pace.specs.declared.walk.track.Pair.{Pair}
 use Rattle.edf_pace.specs.declared.walk.turn.Turn.{Turn}
 use Rattle.edf_pace.specs.walk.Columns.{Sampled}
 use Rattle.edf_samples.specs.Stretches.{since, until}
 use Rattle.edf_samples.specs.Differences.{earlier, earliest, found}
 use Rattle.edf_samples.specs.Tallies.{differences_of, first_of, tally_of}
-use Rattle.edf_pace.specs.walk.Counting.{AreTallies, counts_between, differences_in, differences_since, span_counts}
+use Rattle.edf_pace.specs.walk.Counting.{AreCounts, counts_between, differences_in, differences_since, span_counts, span_found}
+use Rattle.edf_pace.specs.walk.Spots.{count_in}
+use Rattle.edf_pace.specs.declared.walk.watchers.found_in.ChannelCount.{ChannelCount}
 use Rattle.edf_pace.specs.walk.Ends.{IsCounted, IsWalked}
 use Rattle.edf_pace.specs.walk.Pairs.{IsPlaceIn, Places, places_in, places_of}
 use Rattle.edf_pace.specs.walk.Shown.{ArePast, last_end_by}
@@ -66,16 +67,16 @@ none_yet : (frame : Frame) (files : TwoFiles) (t : ℤ) → IsFirst None frame f
 none_yet frame files t =
     sym (window_none ((frame.turn).setting.claim).now (sampled files.original files.head (moved_original frame.turn)) (sampled files.export files.export_head (moved_export frame.turn)) (map places_of (frame.pairs).now) t)
 
-abbrev HoldsBoth : Option Found → Bool → List Tally → Frame → TwoFiles → ℤ → ℤ → Type 0
-HoldsBoth found looks tallies frame files t u = IsFirst found frame files t u × (looks ≡ true → AreTallies tallies frame files t u)
+abbrev HoldsBoth : Option Found → Bool → List ChannelCount → Frame → TwoFiles → ℤ → ℤ → Type 0
+HoldsBoth found looks tallies frame files t u = IsFirst found frame files t u × (looks ≡ true → AreCounts tallies frame files t u)
 
-pub first_walked : (frame : Frame) (files : TwoFiles) (found : Option Found) (looks looks' : Bool) (before tallies : List Tally) (enough : Bool) (walked : ReadOn)
-    → (looks ≡ true → AreTallies before frame files ((frame.turn).from).ps ((frame.turn).from).ps)
+pub first_walked : (frame : Frame) (files : TwoFiles) (found : Option Found) (looks looks' : Bool) (before tallies : List ChannelCount) (enough : Bool) (walked : ReadOn)
+    → (looks ≡ true → AreCounts before frame files ((frame.turn).from).ps ((frame.turn).from).ps)
     → IsWalked frame.turn files (HoldsBoth None looks before frame) (HoldsBoth found looks' tallies frame) enough walked → IsWalked frame.turn files (IsFirst None frame) (IsFirst found frame) enough walked
 first_walked frame files found looks looks' before tallies enough walked begun is = record { holds = λ co ce held. (is.holds co ce (held, begun)).0; within = is.within; ends = is.ends }
 
-pub tallies_walked : (frame : Frame) (files : TwoFiles) (found : Option Found) (looks looks' : Bool) (before tallies : List Tally) (enough : Bool) (walked : ReadOn) → looks' ≡ true
-    → IsWalked frame.turn files (HoldsBoth None looks before frame) (HoldsBoth found looks' tallies frame) enough walked → IsWalked frame.turn files (AreTallies before frame) (AreTallies tallies frame) enough walked
+pub tallies_walked : (frame : Frame) (files : TwoFiles) (found : Option Found) (looks looks' : Bool) (before tallies : List ChannelCount) (enough : Bool) (walked : ReadOn) → looks' ≡ true
+    → IsWalked frame.turn files (HoldsBoth None looks before frame) (HoldsBoth found looks' tallies frame) enough walked → IsWalked frame.turn files (AreCounts before frame) (AreCounts tallies frame) enough walked
 tallies_walked frame files found looks looks' before tallies enough walked so is =
     record { holds = λ co ce held. (is.holds co ce (none_yet frame files ((frame.turn).from).ps, λ l. held)).1 so; within = is.within; ends = is.ends }
 
@@ -134,10 +135,10 @@ found_among false claim o e places t u = subst (λ n. IfSome (earliest 0 (map (�
 -- ---- the end
 
 -- the tallies are those from the turn's time on, and before a time that all of both is past
-module _ (frame : Frame) (x : List ℕ) (h : Head) (y : List ℕ) (g : Head) (w : ReadOn) (enough : Bool) (before tallies : List Tally) (same : map places_of (frame.pairs).now ≡ places_in h g (((frame.turn).setting).labels).now)
+module _ (frame : Frame) (x : List ℕ) (h : Head) (y : List ℕ) (g : Head) (w : ReadOn) (enough : Bool) (before tallies : List ChannelCount) (same : map places_of (frame.pairs).now ≡ places_in h g (((frame.turn).setting).labels).now)
     (places : ArePlaces h g (map places_of (frame.pairs).now)) (from : ((frame.turn).from).ps ≤ℤ (w.seen).ps) (at : (w.seen).ps ≡ (w.reached).ps)
-    (begun : AreTallies before frame (two_files x h y g) ((frame.turn).from).ps ((frame.turn).from).ps)
-    (is : IsWalked frame.turn (two_files x h y g) (AreTallies before frame) (AreTallies tallies frame) enough w) where
+    (begun : AreCounts before frame (two_files x h y g) ((frame.turn).from).ps ((frame.turn).from).ps)
+    (is : IsWalked frame.turn (two_files x h y g) (AreCounts before frame) (AreCounts tallies frame) enough w) where
   abbrev turn : Turn
   turn = frame.turn
 
@@ -160,13 +161,13 @@ module _ (frame : Frame) (x : List ℕ) (h : Head) (y : List ℕ) (g : Head) (w 
   v = last_end_by y g b
 
   abbrev Spans : Bool → List Places → Type 0
-  Spans last places' = tallies ≡ span_counts last claim (sampled x h a) (sampled y g b) places' s v
+  Spans last places' = tallies ≡ span_found last claim (two_files x h y g) a b places' s v
 
-  seen : Conforms x h → Conforms y g → tallies ≡ span_counts false claim (sampled x h a) (sampled y g b) ps s (w.reached).ps
+  seen : Conforms x h → Conforms y g → tallies ≡ span_found false claim (two_files x h y g) a b ps s (w.reached).ps
   seen co ce =
       let P : ℤ → Type 0 = λ u. tallies ≡ counts_between frame (two_files x h y g) s u in
       subst P at (is.holds co ce begun)
-      ∙ sym (map-map (λ (p : Places). tally_of (differences_in claim (sampled x h a) (sampled y g b) s (w.reached).ps p.0 p.1)) places_of (frame.pairs).now)
+      ∙ ap (map (count_in (two_files x h y g) a b)) (sym (map-map (λ (p : Places). tally_of (differences_in claim (sampled x h a) (sampled y g b) s (w.reached).ps p.0 p.1)) places_of (frame.pairs).now))
 
   over : (last : Bool) → turn.is_last ≡ last → Spans last ps → Spans turn.is_last (places_in h g ((turn.setting).labels).now)
   over last e p = let P : Bool → Type 0 = λ l. Spans l (places_in h g ((turn.setting).labels).now) in subst P (sym e) (subst (Spans last) same p)
@@ -174,9 +175,10 @@ module _ (frame : Frame) (x : List ℕ) (h : Head) (y : List ℕ) (g : Head) (w 
   pub counted_end : {lo le : List ℕ} {ns ms : List NoteValue} → turn.is_last ≡ true → HasEnded lo ns x h (Some claim) a (w.reached).ps → HasEnded le ms y g None b (w.reached).ps → IsCounted turn x h y g tallies
   counted_end last o e = λ co.
       let ce = (e.through).conforms in
-      over true last (seen co ce ∙ counts-to-the-end claim x y h g a b s (w.reached).ps v ps co ce places (let le : s ≤ℤ (w.reached).ps = omega (arith, ints, from, at) in le) o.past e.past)
+      let le : s ≤ℤ (w.reached).ps = omega (arith, ints, from, at) in
+      over true last (seen co ce ∙ ap (map (count_in (two_files x h y g) a b)) (counts-to-the-end claim x y h g a b s (w.reached).ps v ps co ce places le o.past e.past))
 
   pub counted_on : turn.is_last ≡ false → enough ≡ false → Conforms y g → IsCounted turn x h y g tallies
   counted_on last more ce = λ co.
-      let P : ℤ → Type 0 = λ u. tallies ≡ span_counts false claim (sampled x h a) (sampled y g b) ps s u in
+      let P : ℤ → Type 0 = λ u. tallies ≡ span_found false claim (two_files x h y g) a b ps s u in
       over false last (subst P (is.ends more last) (seen co ce))

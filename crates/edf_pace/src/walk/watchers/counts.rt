@@ -1,4 +1,4 @@
-//! The watcher that counts: of each channel how many samples differ.
+//! The watcher that counts: of each channel how many samples differ, and in which data records the first and the last lie.
 
 ghost use Rattle.std.specs.Prelude.{◌≡◌, ℤ, [], IfOk, IfSome, false, length, true};
 ghost use Rattle.edf_claim.specs.KeepsReading.{IsUncut};
@@ -10,6 +10,8 @@ ghost use Rattle.edf_pace.specs.walk.Windows.{HasShare};
 use crate::walk::frame::Frame;
 use crate::walk::shares::{Shares, Sight, keep_shares, no_shares};
 use crate::walk::track::Pair;
+use crate::walk::watchers::at_hand::Hands;
+use crate::walk::watchers::found_in::ChannelCount;
 use crate::walk::watchers::watcher::Watcher;
 use crate::walk::window::{kept_window, shows_the_same, window};
 use edf_samples::{Tally, Window, count_differences};
@@ -42,38 +44,41 @@ fn count_pair(
     }
 }
 
-/// Counts the differences of the channels of a frame between two times.
+/// Counts the differences of the channels of a frame between two times, and notes where they lie.
 fn count_window(
     original: &FileReader,
     export: &FileReader,
     frame: Frame<'_>,
     within: Window,
-    tallies: &mut [Tally],
+    counts: &mut [ChannelCount],
 )
     requires pairs { ArePairs original.now.head export.now.head (frame.pairs).now }
     requires uncut { IsUncut ((frame.turn).setting.claim).now.keep (within.from).ps (within.to).ps }
-    requires each { length tallies.old ≡ length (frame.pairs).now }
-    ensures each { length tallies.new ≡ length tallies.old }
-    ensures value { AreCounted original.now export.now frame.entry within tallies.old tallies.new }
+    requires each { length counts.old ≡ length (frame.pairs).now }
+    ensures each { length counts.new ≡ length counts.old }
+    ensures value { AreCounted original.now export.now frame.entry within counts.old counts.new }
 {
     let sight = Sight {
         clock: frame.turn.setting.clock,
         within,
     };
+    let hands = Hands::of(original, export, sight.clock);
     let mut shares = no_shares(frame.turn.setting.claim, within);
     let mut i = frame.pairs.len();
     while i > 0 {
         i -= 1;
         let pair = frame.pairs[i];
         keep_shares(original, export, pair, sight, &mut shares);
-        count_pair(original, export, pair, &shares, &mut tallies[i]);
+        let count = &mut counts[i];
+        count_pair(original, export, pair, &shares, &mut count.tally);
+        count.note(&hands, within.from);
     }
 }
 
-/// Counts the differences of each channel of a frame, to the end of what is compared.
+/// Counts the differences of each channel of a frame, to the end of what is compared, and notes where they lie.
 #[derive(Drop)]
 pub struct Counts {
-    pub tallies: Vec<Tally>,
+    pub channels: Vec<ChannelCount>,
 }
 
 impl Counts {
@@ -81,20 +86,20 @@ impl Counts {
     ///
     /// The error is want of memory.
     pub fn new(alloc: Global, frame: Frame<'_>) -> Result<Counts, AllocError>
-        ensures each { IfOk result (λ w. length w.tallies.items ≡ length (frame.entry.pairs).now) }
+        ensures each { IfOk result (λ w. length w.channels.items ≡ length (frame.entry.pairs).now) }
         ensures none { IfOk result (λ w. (files : TwoFiles) (t : ℤ) →
-            w.tallies.items ≡ counts_between frame.entry files t t) }
+            w.channels.items ≡ counts_between frame.entry files t t) }
     {
-        let mut tallies = Vec::new(alloc);
+        let mut channels = Vec::with_capacity(alloc, frame.pairs.len())?;
         for _ in frame.pairs {
-            tallies.push(Tally::none())?;
+            channels.push(ChannelCount::none())?;
         }
-        Ok(Counts { tallies })
+        Ok(Counts { channels })
     }
 }
 
 impl Watcher for Counts {
-    ghost fits = { λ w frame. length w.tallies.items ≡ length (frame.pairs).now };
+    ghost fits = { λ w frame. length w.channels.items ≡ length (frame.pairs).now };
 
     ghost has_enough = { λ w. false };
 
@@ -102,7 +107,7 @@ impl Watcher for Counts {
 
     ghost keeps = { λ w. record { looks = false; counted = [] } };
 
-    ghost holds = { λ w frame files t u. w.tallies.items ≡ counts_between frame files t u };
+    ghost holds = { λ w frame files t u. w.channels.items ≡ counts_between frame files t u };
 
     fn has_enough(&self) -> bool {
         false
@@ -118,6 +123,6 @@ impl Watcher for Counts {
         if shows_the_same(original, export, frame, within) {
             return;
         }
-        count_window(original, export, frame, within, &mut self.tallies);
+        count_window(original, export, frame, within, &mut self.channels);
     }
 }

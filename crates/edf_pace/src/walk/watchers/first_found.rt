@@ -4,7 +4,7 @@ ghost use Rattle.std.specs.Prelude.{◌≡◌, ◌&&◌, IfSome, is_some, length
 ghost use Rattle.edf_claim.specs.KeepsReading.{IsUncut};
 ghost use Rattle.edf_pace.specs.walk.Ends.{IsFoundAmong};
 ghost use Rattle.edf_pace.specs.walk.Pairs.{IsFrame};
-ghost use Rattle.edf_pace.specs.walk.Counting.{AreTallies};
+ghost use Rattle.edf_pace.specs.walk.Counting.{AreCounts};
 ghost use Rattle.edf_pace.specs.walk.Watching.{HasSeenIn, IsFirst};
 ghost use Rattle.edf_pace.specs.walk.Windows.{IsDifferenceBy};
 
@@ -63,7 +63,7 @@ impl<'a, L: Onlooker> FirstFound<'a, L> {
 
 impl<'a, L: Onlooker> Watcher for FirstFound<'a, L> {
     ghost fits = { λ w frame. IfSome w.found (IsFoundAmong (length (frame.pairs).now))
-        × (L.looks w.onlooker.now ≡ true → length (L.tallies w.onlooker.now) ≡ length (frame.pairs).now) };
+        × (L.looks w.onlooker.now ≡ true → length (L.counts w.onlooker.now) ≡ length (frame.pairs).now) };
 
     ghost has_enough = { λ w. is_some w.found && not (L.looks w.onlooker.now) };
 
@@ -72,7 +72,7 @@ impl<'a, L: Onlooker> Watcher for FirstFound<'a, L> {
     ghost keeps = { λ w. record { looks = L.looks w.onlooker.now; counted = L.counted w.onlooker.now } };
 
     ghost holds = { λ w frame files t u. IsFirst w.found frame files t u
-        × (L.looks w.onlooker.now ≡ true → AreTallies (L.tallies w.onlooker.now) frame files t u) };
+        × (L.looks w.onlooker.now ≡ true → AreCounts (L.counts w.onlooker.now) frame files t u) };
 
     fn has_enough(&self) -> bool {
         self.found.is_some() && !self.onlooker.looks()

@@ -2,8 +2,8 @@
 
 ghost use Rattle.std.specs.Prelude.{◌≡◌, ◌++◌, ◌∷◌, [], ℤ, Bool, List, OnOk, Option, Some, length, true};
 ghost use Rattle.edf_claim.specs.KeepsReading.{IsUncut};
-ghost use Rattle.edf_samples.specs.declared.counts.tally.Tally.{Tally};
-ghost use Rattle.edf_pace.specs.walk.Counting.{AreTallies};
+ghost use Rattle.edf_pace.specs.declared.walk.watchers.found_in.ChannelCount.{ChannelCount};
+ghost use Rattle.edf_pace.specs.walk.Counting.{AreCounts};
 ghost use Rattle.edf_pace.specs.walk.Pairs.{IsFrame};
 ghost use Rattle.edf_pace.specs.walk.Watching.{ExportCount, HasSeenIn, TwoFiles, WholeShown, shown_whole};
 
@@ -19,8 +19,8 @@ pub trait Onlooker {
     /// Whether it looks on at all: then both files are shown to their ends, also behind a difference.
     ghost looks: { Self → Bool };
 
-    /// What it counted so far of each channel of the export that is compared.
-    ghost tallies: { Self → List Tally };
+    /// What it counted so far of each channel of the export that is compared, and where that lies.
+    ghost counts: { Self → List ChannelCount };
 
     /// What it counted of each export that was read to its end, with the export's header.
     ghost counted: { Self → List ExportCount };
@@ -39,32 +39,38 @@ pub trait Onlooker {
         ensures looks { looks self.new ≡ looks self.old }
         ensures counted { counted self.new ≡ counted self.old }
         ensures each { OnOk result (looks self.old ≡ true →
-            length (tallies self.new) ≡ length (frame.entry.pairs).now) }
+            length (counts self.new) ≡ length (frame.entry.pairs).now) }
         ensures none { OnOk result (looks self.old ≡ true → (files : TwoFiles) (t : ℤ) →
-            AreTallies (tallies self.new) frame.entry files t t) };
+            AreCounts (counts self.new) frame.entry files t t) };
 
-    /// Counts what the data records at hand show between two times.
+    /// Begins with an export whose samples aren't compared: nothing is counted of any channel.
+    fn begin_without(&mut self)
+        ensures looks { looks self.new ≡ looks self.old }
+        ensures counted { counted self.new ≡ counted self.old }
+        ensures none { looks self.old ≡ true → counts self.new ≡ [] };
+
+    /// Counts what the data records at hand show between two times, and notes where it lies.
     fn look(&mut self, original: &FileReader, export: &FileReader, frame: Frame<'_>, within: Window)
         requires frame { IsFrame original.now.head export.now.head frame }
         requires uncut { IsUncut ((frame.turn).setting.claim).now.keep (within.from).ps (within.to).ps }
-        requires each { looks self.old ≡ true → length (tallies self.old) ≡ length (frame.pairs).now }
+        requires each { looks self.old ≡ true → length (counts self.old) ≡ length (frame.pairs).now }
         ensures looks { looks self.new ≡ looks self.old }
         ensures counted { counted self.new ≡ counted self.old }
-        ensures each { looks self.old ≡ true → length (tallies self.new) ≡ length (frame.entry.pairs).now }
-        ensures holds { looks self.old ≡ true → HasSeenIn (AreTallies (tallies self.old))
-            (AreTallies (tallies self.new)) frame.entry original.now export.now within };
+        ensures each { looks self.old ≡ true → length (counts self.new) ≡ length (frame.entry.pairs).now }
+        ensures holds { looks self.old ≡ true → HasSeenIn (AreCounts (counts self.old))
+            (AreCounts (counts self.new)) frame.entry original.now export.now within };
 
-    /// Gets an export that was read to its end. What it counted last is that of this export, where it was compared.
+    /// Gets an export that was read to its end. What it counted last is that of this export.
     ///
     /// The error is want of memory.
     fn take_export(&mut self, export: FileReader) -> Result<(), AllocError>
         ensures looks { looks self.new ≡ looks self.old }
         ensures counted { OnOk result (looks self.old ≡ true →
             counted self.new ≡ counted self.old ++
-            (record { head = export.head; tallies = tallies self.old } ∷ [])) };
+            (record { head = export.head; counts = counts self.old } ∷ [])) };
 
     /// Gets the original, which was read to its end, with those of its annotations that are kept; and the annotations of all
-    /// exports. Behind a difference at which nobody looked on, they are those of a front.
+    /// exports. Behind a difference at which nobody looked on, and behind an export that begins early, they are those of a front.
     fn take_original(&mut self, original: Reading, exported: Vec<Note>)
         ensures looks { looks self.new ≡ looks self.old }
         ensures counted { counted self.new ≡ counted self.old }
@@ -81,7 +87,7 @@ impl Onlooker for Nobody {
 
     ghost looks = { λ _. false };
 
-    ghost tallies = { λ _. [] };
+    ghost counts = { λ _. [] };
 
     ghost counted = { λ _. [] };
 
@@ -96,6 +102,9 @@ impl Onlooker for Nobody {
     fn begin(&mut self, _frame: Frame<'_>) -> Result<(), AllocError> {
         Ok(())
     }
+
+    #[inline(always)]
+    fn begin_without(&mut self) {}
 
     #[inline(always)]
     fn look(

@@ -1,4 +1,4 @@
-use Rattle.std.proofs.Common.{◌≡◌, ◌∙◌, ◌<ℤ◌, true, false, None, map, refl, ap, arith, subst}
+use Rattle.std.proofs.Common.{◌∙◌, ◌<ℤ◌, true, None, map, refl, ap, arith, subst}
 use Rattle.std.proofs.lemmas.Int.{ints}
 use Rattle.edf_stream.specs.Views.{note_value}
 use Rattle.edf_check.specs.parts.Ends.{IsEnded}
@@ -92,4 +92,4 @@ returns-in-Ok-Ok-clause-counted g c = λ looks compared early ho he a b bo se.
     let whole = counted looks ho (follows.honesty he) a b (bo.at compared) (at_later c.start.new.reading.reader _ _ b None (moved_export turn) beginning (turn.from).ps (turn.from).low (follows.comes he b se)) in
     let h = (c.args.original.now.reader).head in
     let ms = map note_value (c.compare_on.new.export.notes).items in
-    subst (λ k. IsShown turn a h c.compare_on.new.original b k ms (g.L.Onlooker.tallies c.compare_on.new.shown.onlooker.now)) follows.head whole
+    subst (λ k. IsShown turn a h c.compare_on.new.original b k ms (g.L.Onlooker.counts c.compare_on.new.shown.onlooker.now)) follows.head whole

@@ -5,7 +5,7 @@ use Rattle.std.specs.List.{All}
 use Rattle.edf_header.specs.Heads.{Head}
 use Rattle.edf_stream.specs.Views.{note_value}
 use Rattle.edf_samples.specs.declared.earliest.Found.{Found}
-use Rattle.edf_samples.specs.declared.counts.tally.Tally.{Tally}
+use Rattle.edf_pace.specs.declared.walk.watchers.found_in.ChannelCount.{ChannelCount}
 use Rattle.edf_pace.specs.declared.walk.frame.Frame.{Frame}
 use Rattle.edf_pace.specs.declared.walk.track.Pair.{Pair}
 use Rattle.edf_pace.specs.declared.walk.turn.Turn.{Turn}
@@ -158,7 +158,7 @@ returns-in-Ok-Ok-end_both-clause-matched g c = λ compared early ho he a b ao ae
 
 pub returns-then-not-is_over-clause-counted : goal.returns-then-not-is_over-clause-counted
 returns-then-not-is_over-clause-counted g c =
-    let there : (ts : List Tally) → g.L.Onlooker.tallies c.walk_on.new.watch.watcher.onlooker.now ≡ ts
+    let there : (ts : List ChannelCount) → g.L.Onlooker.counts c.walk_on.new.watch.watcher.onlooker.now ≡ ts
     → TurnCounted g.O.Source g.E.Source c.args.original.now c.args.o.now c.walk_on.new.original c.args.export.now c.args.e.now c.walk_on.new.export c.args.shown.now.turn (g.L.Onlooker.looks c.args.shown.now.onlooker.now) ts = λ ts is looks ho he a b ao ae.
     let turn = c.args.shown.now.turn in
     let read = c.in-Ok-Ok.read in
@@ -181,7 +181,7 @@ returns-then-not-is_over-clause-counted g c =
     let ended = has_ended c.args.export.now.reader c.walk_on.new.export.reader _ _ b None (moved_export turn) read.reached.ps e.head e.going (over.1).0 (e.comes he b ae) in
     let last = (not-over (is_some found && quiet) turn.is_last (ap (λ z. z || turn.is_last) (sym c.has_enough.ensures) ∙ sym c.is_over.ensures ∙ c.if-not-is_over.true)).1 in
     record {
-      counted = subst (λ (xs : List Tally). IsCounted turn a h b k xs) is (counted_on frame a h b k read (is_some found && quiet) _ _ same places later over.0 begun walked last more (ended.through).conforms);
+      counted = subst (λ (xs : List ChannelCount). IsCounted turn a h b k xs) is (counted_on frame a h b k read (is_some found && quiet) _ _ same places later over.0 begun walked last more (ended.through).conforms);
       gathered = record { exported = ended.gathered; kept = λ l. absurd (other_way turn.is_last l last) };
       head = o.head;
     }
@@ -190,7 +190,7 @@ returns-then-not-is_over-clause-counted g c =
 
 pub returns-in-Ok-Ok-end_both-clause-counted : goal.returns-in-Ok-Ok-end_both-clause-counted
 returns-in-Ok-Ok-end_both-clause-counted g c =
-    let there : (ts : List Tally) → g.L.Onlooker.tallies c.walk_on.new.watch.watcher.onlooker.now ≡ ts
+    let there : (ts : List ChannelCount) → g.L.Onlooker.counts c.walk_on.new.watch.watcher.onlooker.now ≡ ts
     → TurnCounted g.O.Source g.E.Source c.args.original.now c.args.o.now (record c.walk_on.new.original { reader = c.end_both.new.original }) c.args.export.now c.args.e.now (record c.walk_on.new.export { reader = c.end_both.new.export }) c.args.shown.now.turn (g.L.Onlooker.looks c.args.shown.now.onlooker.now) ts = λ ts is looks ho he a b ao ae.
     let turn = c.args.shown.now.turn in
     let read = c.in-Ok-Ok.read in
@@ -215,7 +215,7 @@ returns-in-Ok-Ok-end_both-clause-counted g c =
     let ended' = has_ended c.args.original.now.reader c.walk_on.new.original.reader _ _ a (Some turn.setting.claim.now) (moved_original turn) read.reached.ps o.head o.going ((over.1).1 last) (o.comes ho a ao) in
     let goes = rw c.in-Ok-Ok-end_both.field-0-is at c.in-Ok-Ok-end_both.ensures.goes in
     record {
-      counted = subst (λ (xs : List Tally). IsCounted turn a h b k xs) is (counted_end frame a h b k read (is_some found && quiet) _ _ same places later over.0 begun walked last ended' ended);
+      counted = subst (λ (xs : List ChannelCount). IsCounted turn a h b k xs) is (counted_end frame a h b k read (is_some found && quiet) _ _ same places later over.0 begun walked last ended' ended);
       gathered = record { exported = ended.gathered; kept = λ l. ended'.gathered };
       head = goes.head ∙ o.head;
     }

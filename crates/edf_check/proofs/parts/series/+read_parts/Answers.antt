@@ -4,11 +4,10 @@ use Rattle.edf_stream.specs.Views.{note_value}
 use Rattle.edf_check.specs.declared.parts.found.PartsFound.{PartsFound}
 use Rattle.edf_check.specs.parts.Together.{AreRead, HaveFault, held_notes}
 use Rattle.edf_pace.specs.walk.Windows.{is_last}
-use Rattle.edf_pace.specs.walk.Ends.{moved_export, moved_original}
-use Rattle.edf_check.specs.parts.Counted.{serial_counts}
+use Rattle.edf_check.specs.parts.Counted.{turn_counts}
 use Rattle.edf_stream.specs.Conforming.{Conforms}
 use Rattle.edf_check.specs.parts.Ends.{is_same}
-use Rattle.edf_check.proofs.parts.CompareFacts.{and-left, and-right}
+use Rattle.edf_check.proofs.parts.CompareFacts.{and-left, and-right, compared-later}
 use Rattle.edf_check.proofs.parts.SerialFacts.{counted_last, counted_more, fault_behind, fault_first, gathered_last, gathered_more, next_turn, none-early, read_more, read_none}
 use Rattle.edf_check.proofs.parts.series.+read_parts.Goals as goal
 
@@ -90,7 +89,7 @@ returns-in-Ok-Err-read_parts-clause-fault g t c = λ ho a bo he.
     (subst (λ k. HaveFault (turn.part + 1) a k left parts c.in-Ok-Err-read_parts.fault) passed.head fault))
 
 pub returns-in-None-clause-counted : goal.returns-in-None-clause-counted
-returns-in-None-clause-counted g t c = λ looks compared early ho a bo he co.
+returns-in-None-clause-counted g t c = λ looks ho a bo he co.
     let turn = c.args.shown.now.turn in
     let read = c.in-Ok-Ok.read in
     let h = (c.args.so_far.now.original.reader).head in
@@ -99,16 +98,21 @@ returns-in-None-clause-counted g t c = λ looks compared early ho a bo he co.
     let none = none-of c.args.others.now c.in-None.ensures.cases in
     let L : List _ → Type 0 = λ all. c.are_none.result ≡ is_last (map g.E.Source.left all) in
     let last : c.are_none.result ≡ true = subst L none c.are_none.ensures.value in
-    let none-early' = none-early turn.part (read.course).is_early c.nothing.result.early (sym (ap (λ (f : PartsFound). f.early) c.found_with.ensures) ∙ early) in
-    let here = (rw c.in-Ok-Ok.field-0-is at c.in-Ok-Ok.ensures.counted) looks compared none-early'.0 ho a bo he.0 in
+    let part = (rw c.in-Ok-Ok.field-0-is at c.in-Ok-Ok.ensures.read) ho a bo he.0 in
+    let counted = rw c.in-Ok-Ok.field-0-is at c.in-Ok-Ok.ensures.counted in
+    let uncounted = rw c.in-Ok-Ok.field-0-is at c.in-Ok-Ok.ensures.uncounted in
     let others = map g.E.Source.left c.args.others.now in (
-      subst (λ x. g.L.Onlooker.counted x ≡ before ++ serial_counts (turn.setting.claim).now a h (moved_original turn) (moved_export turn) (turn.setting.labels).now (turn.from).ps (e ∷ others)) (search rules)
-          (counted_last turn c.are_none.result a h e others before (g.L.Onlooker.counted c.read_part.new.onlooker) last (ap (map g.E.Source.left) none) (here.0 co)),
-      gathered_last turn c.are_none.result a h e others c.read_part.new.original (held_notes c.args.so_far.now.exported) (map note_value (read.notes).items) (held_notes c.take.new.self) last (ap (map g.E.Source.left) none) here.2 c.in_ok-take.ensures.notes here.1,
+      subst (λ x. g.L.Onlooker.counted x ≡ before ++ turn_counts turn a h (e ∷ others)) (search rules)
+          (counted_last turn c.are_none.result read.course a h e others before (g.L.Onlooker.counted c.read_part.new.onlooker) last (ap (map g.E.Source.left) none) (part.passed).early (part.passed).later
+          (λ compared later. (counted looks compared later ho a bo he.0).0 co) (λ apart. uncounted looks apart he.0)),
+      λ compared early.
+          let none-early' = none-early turn.part (read.course).is_early c.nothing.result.early (sym (ap (λ (f : PartsFound). f.early) c.found_with.ensures) ∙ early) in
+          let here = counted looks compared none-early'.0 ho a bo he.0 in
+          gathered_last turn c.are_none.result a h e others c.read_part.new.original (held_notes c.args.so_far.now.exported) (map note_value (read.notes).items) (held_notes c.take.new.self) last (ap (map g.E.Source.left) none) here.2 c.in_ok-take.ensures.notes here.1,
     )
 
 pub returns-in-Ok-Ok-read_parts-clause-counted : goal.returns-in-Ok-Ok-read_parts-clause-counted
-returns-in-Ok-Ok-read_parts-clause-counted g t c = λ looks compared early ho a bo he co.
+returns-in-Ok-Ok-read_parts-clause-counted g t c = λ looks ho a bo he co.
     let turn = c.args.shown.now.turn in
     let read = c.in-Ok-Ok.read in
     let h = (c.args.so_far.now.original.reader).head in
@@ -120,14 +124,19 @@ returns-in-Ok-Ok-read_parts-clause-counted g t c = λ looks compared early ho a 
     let last : c.are_none.result ≡ false = subst L others c.are_none.ensures.value in
     let passed = (rw c.in-Ok-Ok.field-0-is at c.in-Ok-Ok.ensures.passes) last in
     let part = (rw c.in-Ok-Ok.field-0-is at c.in-Ok-Ok.ensures.read) ho a bo he.0 in
-    let not-early = none-early turn.part (read.course).is_early c.in-Ok-Ok-read_parts.rest.early (sym (ap (λ (f : PartsFound). f.early) c.found_with-in-Ok-Ok-read_parts.ensures) ∙ early) in
-    let here = (rw c.in-Ok-Ok.field-0-is at c.in-Ok-Ok.ensures.counted) looks compared not-early.0 ho a bo he.0 in
-    let beside = (rw c.in-Ok-Ok.field-0-is at c.in-Ok-Ok.ensures.beside) looks last compared not-early.0 in
+    let counted = rw c.in-Ok-Ok.field-0-is at c.in-Ok-Ok.ensures.counted in
+    let uncounted = rw c.in-Ok-Ok.field-0-is at c.in-Ok-Ok.ensures.uncounted in
+    let beside = (rw c.in-Ok-Ok.field-0-is at c.in-Ok-Ok.ensures.beside) looks last in
     let H : List _ → Type 0 = λ all. AllByRecursion IsTrue (map g.E.Source.is_honest all) in
-    let behind = (rw c.in-Ok-Ok-read_parts.field-0-is at c.in-Ok-Ok-read_parts.ensures.counted) (c.read_part.ensures.looks ∙ looks) beside not-early.1 (passed.honesty ho) a (passed.comes ho a bo) (subst H others he.1) (subst (Conforms a) (sym passed.head) co) in
-    let behind' = subst (λ x. g.L.Onlooker.counted c.read_parts.new.shown.onlooker.now ≡ g.L.Onlooker.counted x ++ serial_counts (turn.setting.claim).now a (c.read_part.new.original.reader).head (moved_original turn) (moved_export turn) (turn.setting.labels).now ((read.course).end).ps parts) (search rules) behind.0 in
-    let next = next_turn turn c.are_none.result read (read.course).is_beside in (
-      subst (λ x. g.L.Onlooker.counted x ≡ before ++ serial_counts (turn.setting.claim).now a h (moved_original turn) (moved_export turn) (turn.setting.labels).now (turn.from).ps (e ∷ map g.E.Source.left c.args.others.now)) (search rules)
-          (counted_more turn c.are_none.result a h _ e (map g.E.Source.left c.args.others.now) parts (read.course).end before (g.L.Onlooker.counted c.read_part.new.onlooker) (g.L.Onlooker.counted c.read_parts.new.shown.onlooker.now) last refl passed.head ((part.passed).ended).end_is (ap (map g.E.Source.left) others) (here.0 co) behind'),
-      gathered_more turn next c.are_none.result a h _ e (map g.E.Source.left c.args.others.now) parts c.read_part.new.original c.read_parts.new.so_far.original (held_notes c.args.so_far.now.exported) (map note_value (read.notes).items) (held_notes c.take.new.self) (held_notes c.read_parts.new.so_far.exported) refl (ap (map g.E.Source.left) others) passed.head c.in_ok-take.ensures.notes here.1 behind.1,
+    let behind = (rw c.in-Ok-Ok-read_parts.field-0-is at c.in-Ok-Ok-read_parts.ensures.counted) (c.read_part.ensures.looks ∙ looks) (passed.honesty ho) a (passed.comes ho a bo) (subst H others he.1) (subst (Conforms a) (sym passed.head) co) in
+    let next = next_turn turn c.are_none.result read (read.course).is_beside in
+    let behind' = subst (λ x. g.L.Onlooker.counted c.read_parts.new.shown.onlooker.now ≡ g.L.Onlooker.counted x ++ turn_counts next a (c.read_part.new.original.reader).head parts) (search rules) behind.0 in (
+      subst (λ x. g.L.Onlooker.counted x ≡ before ++ turn_counts turn a h (e ∷ map g.E.Source.left c.args.others.now)) (search rules)
+          (counted_more turn c.are_none.result read a h _ e (map g.E.Source.left c.args.others.now) parts before (g.L.Onlooker.counted c.read_part.new.onlooker) (g.L.Onlooker.counted c.read_parts.new.shown.onlooker.now) last refl passed.head (ap (map g.E.Source.left) others)
+          ((part.passed).ended).end_is beside (part.passed).early (part.passed).later (λ compared later. (counted looks compared later ho a bo he.0).0 co) (λ apart. uncounted looks apart he.0) behind'),
+      λ compared early.
+          let not-early = none-early turn.part (read.course).is_early c.in-Ok-Ok-read_parts.rest.early (sym (ap (λ (f : PartsFound). f.early) c.found_with-in-Ok-Ok-read_parts.ensures) ∙ early) in
+          let here = counted looks compared not-early.0 ho a bo he.0 in
+          let stays = beside ∙ compared-later turn.is_compared (read.course).is_early compared not-early.0 in
+          gathered_more turn next c.are_none.result a h _ e (map g.E.Source.left c.args.others.now) parts c.read_part.new.original c.read_parts.new.so_far.original (held_notes c.args.so_far.now.exported) (map note_value (read.notes).items) (held_notes c.take.new.self) (held_notes c.read_parts.new.so_far.exported) refl (ap (map g.E.Source.left) others) passed.head c.in_ok-take.ensures.notes here.1 (behind.1 stays not-early.1),
     )

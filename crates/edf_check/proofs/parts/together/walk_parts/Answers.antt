@@ -1,4 +1,4 @@
-use Rattle.std.proofs.Common.{rules, ◌≡◌, ◌<◌, ◌∷◌, ◌∙◌, arith, length, map, refl, subst}
+use Rattle.std.proofs.Common.{rules, ◌<◌, ◌∷◌, ◌∙◌, arith, length, map, refl, subst}
 use Rattle.edf_check.specs.parts.Counted.{AreCounted}
 use Rattle.edf_check.specs.parts.Together.{HaveFault}
 use Rattle.edf_check.proofs.parts.TogetherFacts.{counted_together, first_of_all, found_together, gathered_together}
@@ -39,7 +39,7 @@ returns-in-Ok-Err-clause-fault g c = λ ho a so he.
     (subst (λ k. HaveFault 0 a k left parts c.in-Ok-Err.fault) follows.head fault)
 
 pub returns-in-Ok-Ok-clause-counted : goal.returns-in-Ok-Ok-clause-counted
-returns-in-Ok-Ok-clause-counted g c = λ looks ho a so he follow.
+returns-in-Ok-Ok-clause-counted g c = λ looks ho a so he.
     let follows = rw c.in-Ok-None.field-0-is at c.in-Ok-None.ensures.follows in
     let at = follows.comes ho a so in
     let read = (rw c.in-Ok-Ok.field-0-is at c.in-Ok-Ok.ensures.read) (follows.honesty ho) a (record { there = at.there; at = λ is. at }) he in
@@ -47,6 +47,7 @@ returns-in-Ok-Ok-clause-counted g c = λ looks ho a so he follow.
     let parts = g.E.Source.left c.args.part.now ∷ map g.E.Source.left c.args.others.now in
     let setting = c.requires.setting in (
       subst (λ x. AreCounted a parts (c.args.stage.now.setting.claim).now (g.L.Onlooker.counted c.args.stage.now.onlooker.now) (g.L.Onlooker.counted x)) (search rules)
-          (counted_together _ a _ (c.args.so_far.now.original.reader).head _ _ parts _ c.args.so_far.now.exported _ _ _ _ read refl refl (follows.head ∙ (so.passed).head) (so.passed).head setting follow (λ early co. (counted looks refl early (follows.honesty ho) a (record { there = at.there; at = λ is. at }) he co).0)),
-      gathered_together _ a _ (c.args.so_far.now.original.reader).head _ _ parts _ c.args.so_far.now.exported _ _ _ read refl refl (follows.head ∙ (so.passed).head) (so.passed).head setting c.requires.none.1 follow (λ early co. (counted looks refl early (follows.honesty ho) a (record { there = at.there; at = λ is. at }) he co).1),
+          (counted_together _ a _ (c.args.so_far.now.original.reader).head _ _ parts _ c.args.so_far.now.exported _ _ _ _ read refl (follows.head ∙ (so.passed).head) (so.passed).head setting (λ co. (counted looks (follows.honesty ho) a (record { there = at.there; at = λ is. at }) he co).0)),
+      λ follow. gathered_together _ a _ (c.args.so_far.now.original.reader).head _ _ parts _ c.args.so_far.now.exported _ _ _ read refl refl (follows.head ∙ (so.passed).head) (so.passed).head setting c.requires.none.1 follow
+          (λ early co. (counted looks (follows.honesty ho) a (record { there = at.there; at = λ is. at }) he co).1 refl early),
     )

@@ -12,13 +12,13 @@ returns-in-Some-Some-clause-both c =
 
 pub returns-in-Some-Some-clause-told : goal.returns-in-Some-Some-clause-told
 returns-in-Some-Some-clause-told c =
-    let got = c.in_ok-tally.ensures.lookup in
+    let got = c.in_ok-count.ensures.lookup in
     record {
       at = c.in_ok-at.at;
       label_is = c.in_ok-at.ensures;
-      tally = c.in_ok-tally.tally.now;
-      tally_is = slice_get_read c.args.self.tallies.now (length c.args.self.tallies.now) c.in_ok-at.at c.in_ok-tally.tally.now refl (got.3).0 got.1;
-      told = rw (← c.found_at-found.ensures) c.of.ensures.told;
+      count = c.in_ok-count.count.now;
+      count_is = slice_get_read c.args.self.counts.now (length c.args.self.counts.now) c.in_ok-at.at c.in_ok-count.count.now refl (got.3).0 got.1;
+      told = c.of.ensures.told;
     }
 
 pub returns-in_default-clause-both : goal.returns-in_default-clause-both

@@ -7,5 +7,5 @@ use Rattle.edf_findings.proofs.samples.claimed.CountedLabels.channels.Given as g
 abbrev pub invariant-loop-place : goal.invariant-loop-place
 invariant-loop-place l = record {
   which : map (λ (channel : ComparedChannel). channel.place) l.channels.items ≡ places_from (l.self.headers.0).now (l.self.headers.1).now 0 (take l.place l.labels);
-  each : (channel : ComparedChannel) → Has l.channels.items channel → IsToldOf l.labels l.self.labels.now (record { original = (l.self.headers.0).now; export = (l.self.headers.1).now; tallies = l.self.tallies.now; found = l.self.found.now }) channel;
+  each : (channel : ComparedChannel) → Has l.channels.items channel → IsToldOf l.labels l.self.labels.now (record { original = (l.self.headers.0).now; export = (l.self.headers.1).now; counts = l.self.counts.now }) channel;
 }

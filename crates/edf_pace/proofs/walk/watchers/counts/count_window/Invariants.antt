@@ -1,7 +1,8 @@
 use Rattle.std.proofs.Common.{◌≡◌, ◌≤◌, ◌++◌, List, ℕ, drop, map, length, take}
 use Rattle.edf_claim.specs.Keeps.{keeps_instant}
 use Rattle.edf_pace.specs.declared.walk.track.Pair.{Pair}
-use Rattle.edf_pace.specs.walk.Counting.{differences_in, joined_each}
+use Rattle.edf_pace.specs.walk.Counting.{differences_in}
+use Rattle.edf_pace.specs.walk.Hands.{joined_each}
 use Rattle.edf_pace.specs.walk.Pairs.{places_of}
 use Rattle.edf_pace.specs.walk.Shown.{Covers}
 use Rattle.edf_pace.specs.walk.Watching.{moved_export, moved_original}
@@ -11,11 +12,11 @@ use Rattle.edf_pace.proofs.walk.watchers.counts.count_window.Given as goal
 abbrev pub invariant-loop-i : goal.invariant-loop-i
 invariant-loop-i l = record {
   within : l.i ≤ length (l.frame.pairs).now;
-  each : length l.tallies ≡ length l.fn.tallies;
+  each : length l.counts ≡ length l.fn.counts;
   held : AreSharesIn l.original l.export ((l.frame.turn).setting.clock) l.fn.within l.shares;
   kept : (l.shares).is_kept ≡ keeps_instant ((l.frame.turn).setting.claim).now ((l.fn.within).from).ps 1;
   value : (o e : List ℕ) → Covers l.original o (moved_original l.frame.turn) ((l.fn.within).from).ps ((l.fn.within).to).ps → Covers l.export e (moved_export l.frame.turn) ((l.fn.within).from).ps ((l.fn.within).to).ps →
-      l.tallies ≡ take l.i l.fn.tallies ++ joined_each (drop l.i l.fn.tallies) (drop l.i (map (λ (pair : Pair). differences_in ((l.frame.turn).setting.claim).now (sampled o l.original.head (moved_original l.frame.turn)) (sampled e l.export.head (moved_export l.frame.turn)) ((l.fn.within).from).ps ((l.fn.within).to).ps (places_of pair).0 (places_of pair).1) (l.frame.pairs).now));
+      l.counts ≡ take l.i l.fn.counts ++ joined_each l.hands ((l.fn.within).from).ps (drop l.i l.fn.counts) (drop l.i (map (λ (pair : Pair). differences_in ((l.frame.turn).setting.claim).now (sampled o l.original.head (moved_original l.frame.turn)) (sampled e l.export.head (moved_export l.frame.turn)) ((l.fn.within).from).ps ((l.fn.within).to).ps (places_of pair).0 (places_of pair).1) (l.frame.pairs).now));
 }
 
 abbrev pub decreases-loop-i : goal.decreases-loop-i
