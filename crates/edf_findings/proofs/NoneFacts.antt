@@ -21,7 +21,7 @@ use Rattle.edf_pace.specs.Annotations.{SameNotes, note_cmp, times}
 use Rattle.edf_pace.proofs.ForCallers.{none_of_each, tallies_of}
 use Rattle.edf_pace.specs.Kept.{shift_ps}
 use Rattle.edf_pace.specs.walk.Columns.{Sampled, channel_at}
-use Rattle.edf_pace.specs.walk.Counting.{differences_in, differences_since, span_counts, span_found}
+use Rattle.edf_pace.specs.walk.Counting.{differences_in, differences_since, span_tallies, span_counts}
 use Rattle.edf_pace.specs.walk.Pairs.{Places, places_in}
 use Rattle.edf_pace.specs.walk.Readings.{beginning}
 use Rattle.edf_pace.specs.walk.Shown.{last_end_by}
@@ -290,8 +290,8 @@ in-second claim o e t u (Some p, None) none = refl
 in-second claim o e t u (Some p, Some q) none = absurd (let z : Some q ≡ None = none in cc)
 
 one-clean : (last : Bool) (claim : ClaimValue) (x y : Sampled) (t u : ℤ) (h g : Head) (labels others : List (Bor (List ℕ))) (part : ReadPart) (f : PartFindings) → AreSorted claim.channels labels → AreSorted claim.channels others
-    → part.header ≡ g → map (λ (count : ChannelCount). count.tally) part.counts.items ≡ span_counts last claim x y (places_in h g labels) t u → IsFoundIn claim others h part f
-    → AllByRecursion (λ (tally : Tally). tally ≡ tally_of []) (span_counts last claim x y (places_in h g labels) t u) ↔ (list_all is_clean (channels_of f) ≡ true)
+    → part.header ≡ g → map (λ (count : ChannelCount). count.tally) part.counts.items ≡ span_tallies last claim x y (places_in h g labels) t u → IsFoundIn claim others h part f
+    → AllByRecursion (λ (tally : Tally). tally ≡ tally_of []) (span_tallies last claim x y (places_in h g labels) t u) ↔ (list_all is_clean (channels_of f) ≡ true)
 one-clean true claim x y t u h g labels others part f sorted also header tallies found =
     part-clean (λ (p : Places). differences_since claim x y t p.0 p.1) (since-first claim x y t) (since-second claim x y t) h g claim.channels labels others sorted also claim h part f refl refl header tallies found
 one-clean false claim x y t u h g labels others part f sorted also header tallies found =
@@ -310,8 +310,8 @@ all-clean claim o h a b labels others t (part ∷ parts) [] fs sorted also order
 all-clean claim o h a b labels others t (part ∷ parts) (p ∷ ps) [] sorted also order e are = absurd are
 all-clean claim o h a b labels others t (part ∷ parts) (p ∷ ps) (f ∷ fs) sorted also order e are =
     let v = last_end_by part (head_of part) b in
-    let tallies = span_counts (is_last parts) claim (sampled o h a) (sampled part (head_of part) b) (places_in h (head_of part) labels) t v in
-    let counts = span_found (is_last parts) claim (two_files o h part (head_of part)) a b (places_in h (head_of part) labels) t v in
+    let tallies = span_tallies (is_last parts) claim (sampled o h a) (sampled part (head_of part) b) (places_in h (head_of part) labels) t v in
+    let counts = span_counts (is_last parts) claim (two_files o h part (head_of part)) a b (places_in h (head_of part) labels) t v in
     let whole = serial_later claim o h a b labels t part parts order.0 in
     let all : count_in p ∷ map count_in ps ≡ count_of part counts ∷ serial_counts claim o h a b labels v parts = e ∙ whole in
     let first : count_in p ≡ count_of part counts = cc in
@@ -333,7 +333,7 @@ heads-are claim o h k a b labels others t (part ∷ parts) [] fs order e are = a
 heads-are claim o h k a b labels others t (part ∷ parts) (p ∷ ps) [] order e are = absurd are
 heads-are claim o h k a b labels others t (part ∷ parts) (p ∷ ps) (f ∷ fs) order e are =
     let v = last_end_by part (head_of part) b in
-    let counts = span_found (is_last parts) claim (two_files o h part (head_of part)) a b (places_in h (head_of part) labels) t v in
+    let counts = span_counts (is_last parts) claim (two_files o h part (head_of part)) a b (places_in h (head_of part) labels) t v in
     let all : count_in p ∷ map count_in ps ≡ count_of part counts ∷ serial_counts claim o h a b labels v parts = e ∙ serial_later claim o h a b labels t part parts order.0 in
     let first : count_in p ≡ count_of part counts = cc in
     let later : map count_in ps ≡ serial_counts claim o h a b labels v parts = cc in

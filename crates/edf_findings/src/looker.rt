@@ -153,7 +153,7 @@ impl Looker {
         self.part = PartSoFar::none();
     }
 
-    /// Counts what both files show between two times, and notes in which data records it lies.
+    /// Counts what both files show between two times, and notes in which data records the first and the last of each kind lie.
     fn look_at(
         &mut self,
         original: &FileReader,

@@ -11,3 +11,4 @@ pub mod ReportMadeFacts
 pub mod StartBytesFacts
 pub mod BestOrderFacts
 pub mod RoomSearchFacts
+pub mod AgreeFacts

@@ -1,11 +1,11 @@
 //! Where the plain orders put annotations.
 
-ghost use Rattle.std.specs.Prelude.{◌≡◌, ◌≤◌, ◌<◌, ◌+◌, ◌*◌, ◌/◌, ◌^◌, ◌++◌, List, length, map, IfSome, IfOk, OnOk};
+ghost use Rattle.std.specs.Prelude.{◌≡◌, ◌≤◌, ◌<◌, ◌+◌, ◌*◌, ◌/◌, ◌^◌, ◌++◌, List, length, map, IfSome, IfOk, IsTrue, OnOk};
 ghost use Rattle.std.specs.List.{flat_map};
 ghost use Rattle.edf_stream.specs.Views.{note_value};
 ghost use Rattle.edf_stream.specs.annotation.Notes.{NoteValue};
 ghost use Rattle.edf_layout.specs.declared.plain_lanes.PlainTal.TheVariants as tals;
-ghost use Rattle.edf_layout.specs.body.PlainLanes.{order_view, plain_view, lane_view, room_from as room_from_place, is_known_full, AreUnknown, AreFull, IsFirstRoom, AreRising};
+ghost use Rattle.edf_layout.specs.body.PlainLanes.{order_view, plain_view, lane_view, room_from as room_from_place, is_known_full, AreUnknown, AreFull, DoAgree, IsFirstRoom, AreRising};
 ghost use Rattle.edf_layout.specs.body.PlainOrders.{bare_lane, bare_record, filled, put_from as put_from_place, record_for as record_in, record_of_onset as record_of, tal_bytes, tal_of_start, with_tal};
 
 use crate::note_places::laid;
@@ -231,6 +231,25 @@ fn record_for(order: Order, starts: &[i128], number: usize, onset: i128) -> usiz
         Order::OneByOne => number % starts.len(),
         Order::ByTime => record_of_onset(starts, onset),
     }
+}
+
+/// Whether both orders put each of these annotations into the same one of the data records with these starts. Only speed
+/// rests on a no.
+pub fn do_orders_agree(notes: &[Note], starts: &[i128]) -> bool
+    requires { AreRising starts.now }
+    ensures { IsTrue result → DoAgree starts.now 0 (map note_value notes.now) }
+{
+    if starts.is_empty() {
+        return false;
+    }
+    for (number, note) in notes.iter().enumerate() {
+        let one_by_one = record_for(Order::OneByOne, starts, number, note.onset);
+        let by_time = record_for(Order::ByTime, starts, number, note.onset);
+        if one_by_one != by_time {
+            return false;
+        }
+    }
+    true
 }
 
 /// The lanes of data records with these starts, with annotation lanes of these sizes, as an order fills them with

@@ -4,7 +4,7 @@ pub use Rattle.edf_pace.proofs.notes.NoteOrderFacts.{Answer, AreInOrder, more-wi
 pub use Rattle.edf_pace.proofs.notes.OnlyInOneFacts.{none_is_found}
 pub use Rattle.edf_pace.proofs.notes.RearrangedFacts.{notes_in_words}
 pub use Rattle.edf_pace.proofs.walk.ChannelFacts.{ascending, difference_at}
-pub use Rattle.edf_pace.proofs.walk.watchers.CountedFacts.{counted_end, counted_on, first_walked, found_among, none_in_span, tallies_walked}
+pub use Rattle.edf_pace.proofs.walk.watchers.CountedFacts.{counted_end, counted_in_part, first_walked, found_among, none_in_span, tallies_walked}
 pub use Rattle.edf_pace.proofs.walk.watchers.SpotFacts.{none_of_each, tallies_of}
 pub use Rattle.edf_pace.proofs.walk.FileFacts.{fault_is}
 pub use Rattle.edf_pace.proofs.walk.LockstepFacts.{are_places, fault_after, fault_by, fault_by_header, fault_of_heads, has_ended}

@@ -7,5 +7,6 @@ pub mod front;
 pub mod head;
 pub mod numbers;
 pub mod places;
+pub mod ratio;
 pub mod strides;
 pub mod tally;

@@ -20,6 +20,7 @@ pub use counts::blocks::numbers_of;
 pub use counts::count::count_differences;
 pub use counts::counted::Counted;
 pub use counts::places::Places;
+pub use counts::ratio::Ratio;
 pub use counts::tally::Tally;
 pub use difference::PointDifference;
 pub use earliest::{Found, keep_earlier};

@@ -7,7 +7,7 @@ use Rattle.edf_fields.specs.Lists.{Has}
 use Rattle.edf_header.specs.Heads.{Head}
 use Rattle.edf_header.specs.HeadsReading.{head_of}
 use Rattle.edf_samples.specs.declared.earliest.Found.{Found}
-use Rattle.edf_pace.specs.walk.Counting.{span_counts}
+use Rattle.edf_pace.specs.walk.Counting.{span_tallies}
 use Rattle.edf_pace.specs.walk.Watching.{ExportCount, two_files}
 use Rattle.edf_samples.specs.InstantOrder.{floor_of}
 use Rattle.edf_pace.specs.walk.Pairs.{places_in}
@@ -50,7 +50,7 @@ none-counted claim o h a b labels t [] ordered = (λ e. tt, λ n. refl)
 none-counted claim o h a b labels t (part ∷ parts) ordered =
     let v = last_end_by part (head_of part) b in
     let here = none_in_span (is_last parts) claim (sampled o h a) (sampled part (head_of part) b) (places_in h (head_of part) labels) t v in
-    let none = none_of_each (two_files o h part (head_of part)) a b (span_counts (is_last parts) claim (sampled o h a) (sampled part (head_of part) b) (places_in h (head_of part) labels) t v) in
+    let none = none_of_each (two_files o h part (head_of part)) a b (span_tallies (is_last parts) claim (sampled o h a) (sampled part (head_of part) b) (places_in h (head_of part) labels) t v) in
     let there = none-counted claim o h a b labels v parts ordered.1 in
     let all = serial_later claim o h a b labels t part parts ordered.0 in (
       λ e. subst HasNothing (sym all) (let both = none-of-both (span_difference (is_last parts) claim (sampled o h a) (sampled part (head_of part) b) (places_in h (head_of part) labels) t v) (serial_difference claim o h a b labels v parts) e in (none.1 (here.0 both.0), there.0 both.1)),

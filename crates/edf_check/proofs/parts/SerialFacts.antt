@@ -33,7 +33,7 @@ use Rattle.edf_pace.specs.walk.Gathered.{gathered_of}
 use Rattle.edf_pace.specs.walk.Readings.{gathered_so_far}
 use Rattle.edf_pace.specs.walk.Watching.{ExportCount, two_files}
 use Rattle.edf_stream.specs.annotation.NotesReading.{notes_of}
-use Rattle.edf_pace.specs.walk.Counting.{span_found}
+use Rattle.edf_pace.specs.walk.Counting.{span_counts}
 use Rattle.edf_pace.specs.walk.Pairs.{places_in}
 use Rattle.edf_pace.specs.walk.Shown.{begin_by, last_end_by}
 use Rattle.edf_pace.specs.walk.Windows.{sampled, span_difference, is_last}
@@ -184,7 +184,7 @@ serial_early claim o h a b labels t part parts early = rw (lt-true (begin_by par
 -- one that doesn't is compared
 pub serial_later : (claim : ClaimValue) (o : List ℕ) (h : Head) (a b : ℤ) (labels : List (Bor (List ℕ))) (t : ℤ) (part : List ℕ) (parts : List (List ℕ)) → t ≤ℤ begin_by part (head_of part) b 0
     → serial_counts claim o h a b labels t (part ∷ parts)
-    ≡ count_of part (span_found (is_last parts) claim (two_files o h part (head_of part)) a b (places_in h (head_of part) labels) t (last_end_by part (head_of part) b))
+    ≡ count_of part (span_counts (is_last parts) claim (two_files o h part (head_of part)) a b (places_in h (head_of part) labels) t (last_end_by part (head_of part) b))
     ∷ serial_counts claim o h a b labels (last_end_by part (head_of part) b) parts
 serial_later claim o h a b labels t part parts later = rw (lt-false (begin_by part (head_of part) b 0) t later) refl
 
@@ -193,7 +193,7 @@ pub counted_each : (claim : ClaimValue) (o : List ℕ) (h : Head) (a b : ℤ) (l
 counted_each claim o h a b labels t [] = refl
 counted_each claim o h a b labels t (part ∷ parts) =
     let v = last_end_by part (head_of part) b in
-    let first = count_of part (span_found (is_last parts) claim (two_files o h part (head_of part)) a b (places_in h (head_of part) labels) t v) in
+    let first = count_of part (span_counts (is_last parts) claim (two_files o h part (head_of part)) a b (places_in h (head_of part) labels) t v) in
     by_test (int_lt (begin_by part (head_of part) b 0) t) (λ x. length (if x then uncounted (part ∷ parts) else first ∷ serial_counts claim o h a b labels v parts) ≡ length (part ∷ parts))
     (λ e. length-map (part ∷ parts) (λ (file : List ℕ). count_of file [])) (λ e. ap suc (counted_each claim o h a b labels v parts))
 
@@ -219,14 +219,14 @@ turn_uncounted turn course o h e parts early not-so = by turn.is_compared course
 
 -- where it was, so is the next one if it doesn't begin early
 turn_counted : (turn : Turn) (o : List ℕ) (h : Head) (e : List ℕ) (parts : List (List ℕ)) → (turn.from).ps ≤ℤ begin_by e (head_of e) (moved_export turn) 0 → turn.is_compared ≡ true → turn_counts turn o h (e ∷ parts)
-    ≡ count_of e (span_found (is_last parts) ((turn.setting).claim).now (two_files o h e (head_of e)) (moved_original turn) (moved_export turn) (places_in h (head_of e) ((turn.setting).labels).now) (turn.from).ps (last_end_by e (head_of e) (moved_export turn)))
+    ≡ count_of e (span_counts (is_last parts) ((turn.setting).claim).now (two_files o h e (head_of e)) (moved_original turn) (moved_export turn) (places_in h (head_of e) ((turn.setting).labels).now) (turn.from).ps (last_end_by e (head_of e) (moved_export turn)))
     ∷ serial_counts ((turn.setting).claim).now o h (moved_original turn) (moved_export turn) ((turn.setting).labels).now (last_end_by e (head_of e) (moved_export turn)) parts
 turn_counted turn o h e parts later is = turn_compared turn o h (e ∷ parts) is
     ∙ serial_later ((turn.setting).claim).now o h (moved_original turn) (moved_export turn) ((turn.setting).labels).now (turn.from).ps e parts later
 
 -- what was counted of one part, compared
 abbrev counted_in : Turn → Bool → List ℕ → Head → List ℕ → ExportCount
-counted_in turn last o h e = count_of e (span_found last ((turn.setting).claim).now (two_files o h e (head_of e)) (moved_original turn) (moved_export turn) (places_in h (head_of e) ((turn.setting).labels).now) (turn.from).ps (last_end_by e (head_of e) (moved_export turn)))
+counted_in turn last o h e = count_of e (span_counts last ((turn.setting).claim).now (two_files o h e (head_of e)) (moved_original turn) (moved_export turn) (places_in h (head_of e) ((turn.setting).labels).now) (turn.from).ps (last_end_by e (head_of e) (moved_export turn)))
 
 -- of the last part
 pub counted_last : (turn : Turn) (last : Bool) (course : Course) (o : List ℕ) (h : Head) (e : List ℕ) (parts : List (List ℕ)) (before behind : List ExportCount) → last ≡ true → parts ≡ []

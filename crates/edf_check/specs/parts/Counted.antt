@@ -11,7 +11,7 @@ use Rattle.edf_pace.specs.Kept.{shift_ps}
 use Rattle.edf_pace.specs.declared.walk.watchers.found_in.ChannelCount.{ChannelCount}
 use Rattle.edf_pace.specs.Premises.{OfFile, OfFiles}
 use Rattle.edf_samples.specs.Tallies.{tally_of}
-use Rattle.edf_pace.specs.walk.Counting.{span_found}
+use Rattle.edf_pace.specs.walk.Counting.{span_counts}
 use Rattle.edf_pace.specs.walk.Ends.{AreGathered, Both, IsCounted, at_turn, moved_export, moved_original}
 use Rattle.edf_pace.specs.walk.Gathered.{gathered_of}
 use Rattle.edf_pace.specs.walk.Pairs.{places_in}
@@ -34,7 +34,7 @@ abbrev pub serial_counts : ClaimValue → List ℕ → Head → ℤ → ℤ → 
 serial_counts claim o h a b labels t [] = []
 serial_counts claim o h a b labels t (part ∷ parts) =
     if int_lt (begin_by part (head_of part) b 0) t then uncounted (part ∷ parts)
-    else count_of part (span_found (is_last parts) claim (two_files o h part (head_of part)) a b (places_in h (head_of part) labels) t (last_end_by part (head_of part) b))
+    else count_of part (span_counts (is_last parts) claim (two_files o h part (head_of part)) a b (places_in h (head_of part) labels) t (last_end_by part (head_of part) b))
     ∷ serial_counts claim o h a b labels (last_end_by part (head_of part) b) parts
 
 -- nothing was counted of any channel of any part
@@ -51,30 +51,30 @@ StaysBeside looks turn course = looks ≡ true → turn.is_last ≡ false → co
 
 -- where somebody looks on, nothing was counted of any channel of a part that wasn't compared
 abbrev pub IsUncounted : Bool → Turn → List ChannelCount → Course → Type 0
-IsUncounted looks turn tallies course = looks ≡ true → was_compared turn course ≡ false → tallies ≡ []
+IsUncounted looks turn counts course = looks ≡ true → was_compared turn course ≡ false → counts ≡ []
 
 -- where somebody looks on, this was counted of a part that was compared, and annotations were gathered; the original keeps its header
-pub record IsShown (turn : Turn) (o : List ℕ) (h : Head) (r : Reading) (e : List ℕ) (g : Head) (notes : List NoteValue) (tallies : List ChannelCount) : Type 0 where
-  pub counted : IsCounted turn o h e g tallies
+pub record IsShown (turn : Turn) (o : List ℕ) (h : Head) (r : Reading) (e : List ℕ) (g : Head) (notes : List NoteValue) (counts : List ChannelCount) : Type 0 where
+  pub counted : IsCounted turn o h e g counts
   pub gathered : AreGathered turn o h (gathered_so_far r) e g notes
   pub head : (r.reader).head ≡ h
 
 abbrev pub CountedBy : Both → Turn → Reading → Reading → List ChannelCount → Type 0
-CountedBy both turn r' s' tallies =
-    OfFiles both.original both.export (λ o e. IsShown turn o (both.original).head r' e (both.export).head (gathered_so_far s') tallies)
+CountedBy both turn r' s' counts =
+    OfFiles both.original both.export (λ o e. IsShown turn o (both.original).head r' e (both.export).head (gathered_so_far s') counts)
 
 -- where both were read to the begin of the turn
 abbrev pub TurnCounted : {O E : Type 0} → Ghosts O → Ghosts E → Reading → O → Reading → Reading → E → Reading → Turn → Bool → List ChannelCount → Type 0
-TurnCounted o e r s r_behind r' s' r'_behind turn looks tallies = looks ≡ true → CountedBy (at_turn o e r s r' s' turn) turn r_behind r'_behind tallies
+TurnCounted o e r s r_behind r' s' r'_behind turn looks counts = looks ≡ true → CountedBy (at_turn o e r s r' s' turn) turn r_behind r'_behind counts
 
 -- where of the part the header was read, and it was compared
 abbrev pub PartCounted : {O E : Type 0} → Ghosts O → Ghosts E → Reading → O → Reading → Reading → E → Reading → Turn → Bool → List ChannelCount → Course → Type 0
-PartCounted o e r s r_behind r' s' r'_behind turn looks tallies course = looks ≡ true → turn.is_compared ≡ true → course.is_early ≡ false
-    → CountedBy (at_part o e r s r' s' turn) turn r_behind r'_behind tallies
+PartCounted o e r s r_behind r' s' r'_behind turn looks counts course = looks ≡ true → turn.is_compared ≡ true → course.is_early ≡ false
+    → CountedBy (at_part o e r s r' s' turn) turn r_behind r'_behind counts
 
 -- what was counted of a part stands behind that of the parts before it
 abbrev pub IsCountedBehind : Turn → List ℕ → Head → List ℕ → List ExportCount → List ExportCount → Type 0
-IsCountedBehind turn o h e before behind = Conforms o h → behind ≡ before ++ (count_of e (span_found turn.is_last ((turn.setting).claim).now (two_files o h e (head_of e)) (moved_original turn) (moved_export turn)
+IsCountedBehind turn o h e before behind = Conforms o h → behind ≡ before ++ (count_of e (span_counts turn.is_last ((turn.setting).claim).now (two_files o h e (head_of e)) (moved_original turn) (moved_export turn)
     (places_in h (head_of e) ((turn.setting).labels).now) (turn.from).ps (last_end_by e (head_of e) (moved_export turn))) ∷ [])
 
 -- where its header is read with it, and it was compared
@@ -102,7 +102,7 @@ turn_counts turn o h parts =
     if turn.is_compared then serial_counts ((turn.setting).claim).now o h (moved_original turn) (moved_export turn) ((turn.setting).labels).now (turn.from).ps parts
     else uncounted parts
 
--- it stands behind what was counted of the parts before them; and where they are compared and none begins early, the annotations were gathered
+-- what is counted of these parts stands behind what was counted of those before them; and where they are compared and none begins early, the annotations were gathered
 abbrev pub AreCountedBehind : {O E : Type 0} → Ghosts O → Ghosts E → Turn → ReadSoFar → ReadSoFar → O → List E → Bool → List ExportCount → List ExportCount → PartsFound → Type 0
 AreCountedBehind original export turn so_far so_far' s parts looks before behind found = looks ≡ true
     → OfFile (beside original so_far.original s turn) (λ o. AllByRecursion IsTrue (map export.is_honest parts) → Conforms o ((so_far.original).reader).head

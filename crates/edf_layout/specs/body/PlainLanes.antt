@@ -4,7 +4,7 @@ use Rattle.std.specs.List.{position}
 use Rattle.std.specs.Option.{option_map, option_map_or}
 use Rattle.edf_tal.specs.Tals.{TalValue}
 use Rattle.edf_stream.specs.annotation.Notes.{NoteValue}
-use Rattle.edf_layout.specs.body.PlainOrders.{PlainOrder, OneByOne, ByTime, FilledLane, tal_of_note, tal_of_start}
+use Rattle.edf_layout.specs.body.PlainOrders.{PlainOrder, OneByOne, ByTime, FilledLane, record_for, tal_of_note, tal_of_start}
 use Rattle.edf_layout.specs.declared.plain_lanes.Order.{Order}
 use Rattle.edf_layout.specs.declared.plain_lanes.Order.TheVariants as orders
 use Rattle.edf_layout.specs.declared.plain_lanes.PlainTal.{PlainTal}
@@ -15,6 +15,11 @@ use Rattle.edf_layout.specs.declared.plain_lanes.PlainLane.{PlainLane}
 abbrev pub order_view : Order → PlainOrder
 order_view orders.OneByOne = OneByOne
 order_view orders.ByTime = ByTime
+
+-- both orders put each of these annotations, of which the first is number i, into the same one of the data records with these starts
+abbrev pub DoAgree : List ℤ → ℕ → List NoteValue → Type 0
+DoAgree starts i [] = Unit {0}
+DoAgree starts i (note ∷ notes) = (record_for OneByOne starts i note ≡ record_for ByTime starts i note) × DoAgree starts (i + 1) notes
 
 -- a TAL, by the annotations in order
 abbrev pub plain_view : List NoteValue → PlainTal → TalValue

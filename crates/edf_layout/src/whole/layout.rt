@@ -27,7 +27,7 @@ use crate::head_layout::{plain_outcome, push_places};
 use crate::head_lines::push_head_lines;
 use crate::laid_tal::push_tals;
 use crate::odd_places::{Lines, push_odd_places};
-use crate::plain_lanes::Order;
+use crate::plain_lanes::{Order, do_orders_agree};
 use crate::signal_fields::RawSignals;
 use crate::whole::file_body::FileBody;
 use crate::whole::odd_lanes::{OddLane, odd_lanes};
@@ -92,6 +92,13 @@ fn lay_body<'a>(
         (order_view laid.order) (map odd_view laid.odd.items)) }
 {
     let by_time = odd_lanes(alloc, Order::ByTime, body, sizes, usize::MAX)?;
+    if do_orders_agree(&body.notes, &body.starts) {
+        // then the first order has the same lanes otherwise, and goes before the other one
+        return Ok(LaidBody {
+            order: Order::OneByOne,
+            odd: by_time,
+        });
+    }
     // the first order fits worse, once more lanes differ from it
     let one_by_one = odd_lanes(alloc, Order::OneByOne, body, sizes, by_time.len())?;
     Ok(best_of(by_time, one_by_one))

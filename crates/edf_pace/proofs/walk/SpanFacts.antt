@@ -92,9 +92,9 @@ no-end n num a u h =
     (λ e. let s = scaled n a u (omega (arith, ints, e)) in lt-false num (a *ℤ pos n) (omega (arith, ints, s, h)))
     (λ e. lt-false num (u *ℤ pos n) h)
 
-and-false : (b : Bool) → (b && false) ≡ false
-and-false true = refl
-and-false false = refl
+pub and_false : (b : Bool) → (b && false) ≡ false
+and_false true = refl
+and_false false = refl
 
 -- the instant num / n is in one of the intervals
 abbrev any_within : List Interval → ℤ → ℕ → Bool
@@ -114,7 +114,7 @@ until-keeps (i ∷ is) u num n h = rw (earlier-end n num i.to_ps u h, until-keep
 
 until-none : (keep : List Interval) (u num : ℤ) (n : ℕ) → (u *ℤ pos n) ≤ℤ num → any_within (cut_until u keep) num n ≡ false
 until-none [] u num n h = refl
-until-none (i ∷ is) u num n h = rw (no-end n num i.to_ps u h, and-false (int_le (i.from_ps *ℤ pos n) num), until-none is u num n h) refl
+until-none (i ∷ is) u num n h = rw (no-end n num i.to_ps u h, and_false (int_le (i.from_ps *ℤ pos n) num), until-none is u num n h) refl
 
 -- ---- the claim within a span
 

@@ -8,7 +8,7 @@ use Rattle.edf_pace.specs.declared.walk.lockstep.Step.{Step}
 use Rattle.edf_pace.specs.declared.walk.fault_of.FaultOf.TheVariants.{Original as OfOriginal, Part as OfPart}
 use Rattle.edf_samples.specs.InstantOrder.{IsModest}
 use Rattle.edf_pace.specs.Premises.{Known, OfFile, OfFiles}
-use Rattle.edf_pace.specs.walk.Counting.{span_found}
+use Rattle.edf_pace.specs.walk.Counting.{span_counts}
 use Rattle.edf_pace.specs.walk.Gathered.{gathered_of}
 use Rattle.edf_pace.specs.walk.Pairs.{places_in}
 use Rattle.edf_pace.specs.walk.Readings.{ExportIn, ExportMoves, OriginalIn, OriginalMoves, export_at, going, original_at}
@@ -149,5 +149,5 @@ pub record IsMatched (turn : Turn) (o : List ℕ) (h : Head) (notes : List NoteV
 -- its samples were counted by channel
 abbrev pub IsCounted : Turn → List ℕ → Head → List ℕ → Head → List ChannelCount → Type 0
 IsCounted turn o h e g counts = Conforms o h
-    → counts ≡ span_found turn.is_last ((turn.setting).claim).now (two_files o h e g) (moved_original turn) (moved_export turn)
+    → counts ≡ span_counts turn.is_last ((turn.setting).claim).now (two_files o h e g) (moved_original turn) (moved_export turn)
     (places_in h g ((turn.setting).labels).now) (turn.from).ps (last_end_by e g (moved_export turn))

@@ -28,6 +28,7 @@ AreHandsOf original a export b hands = IsHandOf original a hands.original × IsH
 abbrev pub number_in : Hand → Instant → Option ℕ
 number_in hand at = if is_before at (whole (hand.from).ps) then None else hand.number
 
+-- the numbers of those at hand, each where the instant isn't before its begin
 abbrev pub records_at : Hands → Instant → RecordsAt
 records_at hands at = record { original = number_in hands.original at; export = number_in hands.export at }
 

@@ -1,5 +1,5 @@
 -- In which data records of two files the samples lie that were counted. By `ps` a file is moved: its times then count from the second at
--- which the original starts, before the shift. EDF (1992), "Data record".
+-- which the original starts, before the shift. EDF (1992), "Data record"; EDF+ (2003), "Time keeping of data records".
 use Rattle.std.specs.Prelude.{ℕ, zero, suc, ℤ, Bool, ◌&&◌, not, if◌then◌else◌, List, [], Option, None, Some}
 use Rattle.edf_pace.specs.Words.{Head, Instant, PointDifference, option_map}
 use Rattle.edf_samples.specs.InstantOrder.{is_before}

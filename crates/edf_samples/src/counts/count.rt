@@ -6,6 +6,7 @@ ghost use Rattle.edf_samples.specs.Tallies.{all_of, each_is, joined, lacks_first
 
 use crate::counts::front::{alone_behind, count_front};
 use crate::counts::head::{difference_at, head_at, head_behind};
+use crate::counts::ratio::Ratio;
 use crate::counts::tally::Tally;
 use crate::difference::PointDifference;
 use crate::stretch::{Stretch, count_in};
@@ -98,13 +99,14 @@ fn count_extra(y: Stretch, from: usize, tally: &mut Tally)
     }
 }
 
-/// Counts all differences of two stretches of one channel.
-pub fn count_differences(x: Stretch, y: Stretch, tally: &mut Tally)
+/// Counts all differences of two stretches of one channel. The ratio of their rates is held for the next two that have it, where it
+/// had to be found.
+pub fn count_differences(x: Stretch, y: Stretch, held: &mut Option<Ratio>, tally: &mut Tally)
     requires x { IsPart x }
     requires y { IsPart y }
     ensures { tally.new ≡ joined tally.old (tally_of (all_of x.entry y.entry)) }
 {
-    let (x_from, y_from) = count_front(x, y, tally);
+    let (x_from, y_from) = count_front(x, y, held, tally);
     let (i, j) = count_both(x, x_from, y, y_from, tally);
     count_missing(x, i, tally);
     count_extra(y, j, tally);

@@ -14,7 +14,8 @@ use crate::counts::blocks::numbers_of;
 use crate::counts::counted::Counted;
 use crate::counts::numbers::{numbers_at, whole_strides};
 use crate::counts::places::Places;
-use crate::counts::strides::{Strides, strides_of};
+use crate::counts::ratio::{Ratio, Strides};
+use crate::counts::strides::strides_of;
 use crate::counts::tally::Tally;
 use crate::difference::PointDifference;
 use crate::stretch::{Stretch, count_in, instant_at, is_one_grid};
@@ -232,7 +233,12 @@ fn count_strided(x: Stretch, y: Stretch, strides: Strides, tally: &mut Tally) ->
 
 /// Counts the differences at the front of two stretches at once, where both begin at one instant and have one rate, or rates
 /// of which one data record has a whole number of strides. It answers how many samples of each are done with: elsewhere none.
-pub(crate) fn count_front(x: Stretch, y: Stretch, tally: &mut Tally) -> (usize, usize)
+pub(crate) fn count_front(
+    x: Stretch,
+    y: Stretch,
+    held: &mut Option<Ratio>,
+    tally: &mut Tally,
+) -> (usize, usize)
     requires x { IsPart x }
     requires y { IsPart y }
     ensures x_within { 2 * result.0 ≤ length x.entry.bytes.now }
@@ -243,7 +249,7 @@ pub(crate) fn count_front(x: Stretch, y: Stretch, tally: &mut Tally) -> (usize, 
     if is_one_grid(x, y) {
         return count_each(x, y, tally);
     }
-    match strides_of(x, y) {
+    match strides_of(x, y, held) {
         Some(strides) => count_strided(x, y, strides, tally),
         None => (0, 0),
     }

@@ -5,7 +5,7 @@ ghost use Rattle.edf_samples.specs.Others.{AreOthers, values_differ_at};
 
 use crate::counts::blocks::{numbers_of, with_one};
 use crate::counts::places::Places;
-use crate::counts::strides::Strides;
+use crate::counts::ratio::Strides;
 use edf_stream::value_at;
 
 /// How many whole strides so many samples have. Of the shortest no division is made.

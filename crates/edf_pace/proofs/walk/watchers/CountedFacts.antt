@@ -20,7 +20,7 @@ use Rattle.edf_pace.specs.walk.Columns.{Sampled}
 use Rattle.edf_samples.specs.Stretches.{since, until}
 use Rattle.edf_samples.specs.Differences.{earlier, earliest, found}
 use Rattle.edf_samples.specs.Tallies.{differences_of, first_of, tally_of}
-use Rattle.edf_pace.specs.walk.Counting.{AreCounts, counts_between, differences_in, differences_since, span_counts, span_found}
+use Rattle.edf_pace.specs.walk.Counting.{AreCounts, counts_between, differences_in, differences_since, span_tallies, span_counts}
 use Rattle.edf_pace.specs.walk.Spots.{count_in}
 use Rattle.edf_pace.specs.declared.walk.watchers.found_in.ChannelCount.{ChannelCount}
 use Rattle.edf_pace.specs.walk.Ends.{IsCounted, IsWalked}
@@ -54,7 +54,7 @@ all-before claim o e h g a b t u (Some p) (Some q) co ce ip iq le po pe =
     ∙ ap (λ zs. differences_of n (since n t xs) m zs) (sym (none-behind m t u ys iq.some (points-ascend e g q b ce iq) le (nothing-left e g q b u ce iq pe)))
 
 counts-to-the-end : (claim : ClaimValue) (o e : List ℕ) (h g : Head) (a b t u v : ℤ) (ps : List Places) → Conforms o h → Conforms e g → ArePlaces h g ps → t ≤ℤ u → ArePast o h a h.records u → ArePast e g b g.records u
-    → span_counts false claim (sampled o h a) (sampled e g b) ps t u ≡ span_counts true claim (sampled o h a) (sampled e g b) ps t v
+    → span_tallies false claim (sampled o h a) (sampled e g b) ps t u ≡ span_tallies true claim (sampled o h a) (sampled e g b) ps t v
 unfolding ArePlaces
 counts-to-the-end claim o e h g a b t u v [] co ce all le po pe = refl
 counts-to-the-end claim o e h g a b t u v (p ∷ ps) co ce all le po pe =
@@ -108,7 +108,7 @@ none-earliest f g same k (p ∷ ps) = (
 )
 
 -- between two times, or from one on, there is no difference exactly where each tally is that of none
-pub none_in_span : (last : Bool) (claim : ClaimValue) (o e : Sampled) (places : List Places) (t u : ℤ) → (span_difference last claim o e places t u ≡ None) ↔ AllByRecursion (λ (tally : Tally). tally ≡ tally_of []) (span_counts last claim o e places t u)
+pub none_in_span : (last : Bool) (claim : ClaimValue) (o e : Sampled) (places : List Places) (t u : ℤ) → (span_difference last claim o e places t u ≡ None) ↔ AllByRecursion (λ (tally : Tally). tally ≡ tally_of []) (span_tallies last claim o e places t u)
 unfolding rest_difference window_difference
 none_in_span true claim o e places t u = none-earliest (λ p. rest_of claim o e t p.0 p.1) (λ p. differences_since claim o e t p.0 p.1) (λ p. since-first claim o e t p.0 p.1) 0 places
 none_in_span false claim o e places t u = none-earliest (λ p. window_of claim o e t u p.0 p.1) (λ p. differences_in claim o e t u p.0 p.1) (λ p. channel_first claim o e t u p.0 p.1) 0 places
@@ -161,9 +161,9 @@ module _ (frame : Frame) (x : List ℕ) (h : Head) (y : List ℕ) (g : Head) (w 
   v = last_end_by y g b
 
   abbrev Spans : Bool → List Places → Type 0
-  Spans last places' = tallies ≡ span_found last claim (two_files x h y g) a b places' s v
+  Spans last places' = tallies ≡ span_counts last claim (two_files x h y g) a b places' s v
 
-  seen : Conforms x h → Conforms y g → tallies ≡ span_found false claim (two_files x h y g) a b ps s (w.reached).ps
+  seen : Conforms x h → Conforms y g → tallies ≡ span_counts false claim (two_files x h y g) a b ps s (w.reached).ps
   seen co ce =
       let P : ℤ → Type 0 = λ u. tallies ≡ counts_between frame (two_files x h y g) s u in
       subst P at (is.holds co ce begun)
@@ -178,7 +178,7 @@ module _ (frame : Frame) (x : List ℕ) (h : Head) (y : List ℕ) (g : Head) (w 
       let le : s ≤ℤ (w.reached).ps = omega (arith, ints, from, at) in
       over true last (seen co ce ∙ ap (map (count_in (two_files x h y g) a b)) (counts-to-the-end claim x y h g a b s (w.reached).ps v ps co ce places le o.past e.past))
 
-  pub counted_on : turn.is_last ≡ false → enough ≡ false → Conforms y g → IsCounted turn x h y g tallies
-  counted_on last more ce = λ co.
-      let P : ℤ → Type 0 = λ u. tallies ≡ span_found false claim (two_files x h y g) a b ps s u in
+  pub counted_in_part : turn.is_last ≡ false → enough ≡ false → Conforms y g → IsCounted turn x h y g tallies
+  counted_in_part last more ce = λ co.
+      let P : ℤ → Type 0 = λ u. tallies ≡ span_counts false claim (two_files x h y g) a b ps s u in
       over false last (subst P (is.ends more last) (seen co ce))

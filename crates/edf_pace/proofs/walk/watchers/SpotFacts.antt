@@ -39,13 +39,10 @@ use Rattle.edf_pace.specs.walk.Shown.{ArePast, Covers, Reaches, Shows, begin_by,
 use Rattle.edf_pace.specs.walk.Spots.{count_in, lies_in, record_among, record_in, records_in}
 use Rattle.edf_pace.specs.walk.Watching.{TwoFiles, two_files}
 use Rattle.edf_pace.specs.walk.Windows.{kept_at, points_at}
+use Rattle.edf_pace.proofs.walk.SpanFacts.{and_false}
 use Rattle.edf_pace.proofs.walk.WindowFacts.{until-from}
 
 -- ---- the data record in which an instant lies
-
-and-false : (b : Bool) → (b && false) ≡ false
-and-false true = refl
-and-false false = refl
 
 and-true : (b : Bool) → (b && true) ≡ b
 and-true true = refl
@@ -56,7 +53,7 @@ none-past : (file : List ℕ) (h : Head) (ps t : ℤ) (at : Instant) (k : ℕ) �
 none-past file h ps t at zero past from = refl
 none-past file h ps t at (suc k) past from =
     let ended : is_before at (whole (end_by file h ps k)) ≡ false = false-is_before at (whole (end_by file h ps k)) (earlier_from at (end_by file h ps k) t (past k (omega arith)) from) in
-    let no : lies_in file h ps at k ≡ false = ap (λ b. not (is_before at (whole (begin_by file h ps k))) && b) ended ∙ and-false (not (is_before at (whole (begin_by file h ps k)))) in
+    let no : lies_in file h ps at k ≡ false = ap (λ b. not (is_before at (whole (begin_by file h ps k))) && b) ended ∙ and_false (not (is_before at (whole (begin_by file h ps k)))) in
     ap (λ b. cond b (Some k) (record_among file h ps at k)) no ∙ none-past file h ps t at k (λ j lt. past j (omega (arith, lt))) from
 
 -- nor in one that begins behind it

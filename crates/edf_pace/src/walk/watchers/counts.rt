@@ -1,4 +1,4 @@
-//! The watcher that counts: of each channel how many samples differ, and in which data records the first and the last lie.
+//! The watcher that counts: of each channel how many samples differ, and in which data records the first and the last of each kind lie.
 
 ghost use Rattle.std.specs.Prelude.{◌≡◌, ℤ, [], IfOk, IfSome, false, length, true};
 ghost use Rattle.edf_claim.specs.KeepsReading.{IsUncut};
@@ -14,29 +14,40 @@ use crate::walk::watchers::at_hand::Hands;
 use crate::walk::watchers::found_in::ChannelCount;
 use crate::walk::watchers::watcher::Watcher;
 use crate::walk::window::{kept_window, shows_the_same, window};
-use edf_samples::{Tally, Window, count_differences};
+use edf_samples::{Ratio, Tally, Window, count_differences};
 use edf_stream::FileReader;
 use std::alloc::{AllocError, Global};
 
-/// Counts the differences of the channels of a label between two times; none where one of the files has no such channel.
+/// An original and an export that are read.
+#[derive(Clone, Copy)]
+struct Files<'a> {
+    original: &'a FileReader,
+    export: &'a FileReader,
+}
+
+/// Counts the differences of the channels of a label between two times; none where one of the files has no such channel. The ratio
+/// of their rates is held for the next two.
 fn count_pair(
-    original: &FileReader,
-    export: &FileReader,
+    files: Files<'_>,
     pair: Pair,
     shares: &Shares,
+    held: &mut Option<Ratio>,
     tally: &mut Tally,
 )
-    requires original { IfSome pair.original (IsTrack original.now.head) }
-    requires export { IfSome pair.export (IsTrack export.now.head) }
+    requires original { IfSome pair.original (IsTrack (files.original).now.head) }
+    requires export { IfSome pair.export (IsTrack (files.export).now.head) }
     requires original_share { shares.now.is_kept ≡ true →
-        HasShare original.now pair.original shares.now.original }
-    requires export_share { HasShare export.now pair.export shares.now.export }
-    ensures { IsPairCounted original.now export.now shares.now pair tally.old tally.new }
+        HasShare (files.original).now pair.original shares.now.original }
+    requires export_share { HasShare (files.export).now pair.export shares.now.export }
+    ensures { IsPairCounted (files.entry.original).now (files.entry.export).now shares.now pair
+        tally.old tally.new }
 {
+    let Files { original, export } = files;
     match (pair.original, pair.export) {
         (Some(here), Some(there)) => count_differences(
             kept_window(original, here, &shares.original, shares.is_kept),
             window(export, there, &shares.export),
+            held,
             tally,
         ),
         (Some(_), None) => {}
@@ -44,7 +55,7 @@ fn count_pair(
     }
 }
 
-/// Counts the differences of the channels of a frame between two times, and notes where they lie.
+/// Counts the differences of the channels of a frame between two times, and notes where the first and the last of each kind lie.
 fn count_window(
     original: &FileReader,
     export: &FileReader,
@@ -63,19 +74,22 @@ fn count_window(
         within,
     };
     let hands = Hands::of(original, export, sight.clock);
+    let files = Files { original, export };
     let mut shares = no_shares(frame.turn.setting.claim, within);
+    let mut held = None;
     let mut i = frame.pairs.len();
     while i > 0 {
         i -= 1;
         let pair = frame.pairs[i];
         keep_shares(original, export, pair, sight, &mut shares);
         let count = &mut counts[i];
-        count_pair(original, export, pair, &shares, &mut count.tally);
+        count_pair(files, pair, &shares, &mut held, &mut count.tally);
         count.note(&hands, within.from);
     }
 }
 
-/// Counts the differences of each channel of a frame, to the end of what is compared, and notes where they lie.
+/// Counts the differences of each channel of a frame, to the end of what is compared, and notes where the first and the
+/// last of each kind lie.
 #[derive(Drop)]
 pub struct Counts {
     pub channels: Vec<ChannelCount>,

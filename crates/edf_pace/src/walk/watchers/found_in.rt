@@ -1,4 +1,4 @@
-//! What is counted of a channel, and in which data records it was found.
+//! What is counted of a channel, and in which data records the first and the last of each kind lie.
 
 ghost use Rattle.std.specs.Prelude.{◌≡◌, option_map};
 ghost use Rattle.edf_pace.specs.walk.Hands.{counted_on, found_on, is_since, records_at};
@@ -33,7 +33,7 @@ fn records_of(hands: &Hands, difference: Option<PointDifference>) -> Option<Reco
 }
 
 /// Whether there is a difference, and it is at a time or later.
-fn is_from(difference: Option<PointDifference>, since: Time) -> bool
+fn is_since(difference: Option<PointDifference>, since: Time) -> bool
     ensures { result ≡ is_since since.ps difference }
 {
     match difference {
@@ -54,7 +54,7 @@ impl FoundIn {
     fn note(&mut self, counted: &Counted, hands: &Hands, since: Time)
         ensures { self.new ≡ found_on hands.now since.ps self.old counted.now }
     {
-        if !is_from(counted.last, since) {
+        if !is_since(counted.last, since) {
             return;
         }
         self.last = records_of(hands, counted.last);

@@ -19,7 +19,7 @@ pub trait Onlooker {
     /// Whether it looks on at all: then both files are shown to their ends, also behind a difference.
     ghost looks: { Self → Bool };
 
-    /// What it counted so far of each channel of the export that is compared, and where that lies.
+    /// What it counted so far of each channel of the export that is compared, and where the first and the last of each kind lie.
     ghost counts: { Self → List ChannelCount };
 
     /// What it counted of each export that was read to its end, with the export's header.
@@ -49,7 +49,7 @@ pub trait Onlooker {
         ensures counted { counted self.new ≡ counted self.old }
         ensures none { looks self.old ≡ true → counts self.new ≡ [] };
 
-    /// Counts what the data records at hand show between two times, and notes where it lies.
+    /// Counts what the data records at hand show between two times, and notes where the first and the last of each kind lie.
     fn look(&mut self, original: &FileReader, export: &FileReader, frame: Frame<'_>, within: Window)
         requires frame { IsFrame original.now.head export.now.head frame }
         requires uncut { IsUncut ((frame.turn).setting.claim).now.keep (within.from).ps (within.to).ps }

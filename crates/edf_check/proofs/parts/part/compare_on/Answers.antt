@@ -15,7 +15,7 @@ use Rattle.edf_pace.specs.walk.Shown.{last_end_by}
 use Rattle.edf_check.specs.parts.Counted.{TurnCounted}
 use Rattle.edf_check.proofs.parts.CompareFacts.{is_alone, last-over, never-enough, not-over, passes_moved, passes_on}
 use Rattle.edf_pace.specs.walk.Watching.{IsFirst, Kept, two_files}
-use Rattle.edf_pace.proofs.ForCallers.{are_places, counted_end, counted_on, first_walked, has_ended, matched_behind, matched_end, matched_on, other_way, tallies_walked}
+use Rattle.edf_pace.proofs.ForCallers.{are_places, counted_end, counted_in_part, first_walked, has_ended, matched_behind, matched_end, matched_on, other_way, tallies_walked}
 use Rattle.edf_check.proofs.parts.part.compare_on.Goals as goal
 
 abbrev framed : Turn → Bor (List Pair) → Option ℕ → Frame
@@ -181,7 +181,7 @@ returns-then-not-is_over-clause-counted g c =
     let ended = has_ended c.args.export.now.reader c.walk_on.new.export.reader _ _ b None (moved_export turn) read.reached.ps e.head e.going (over.1).0 (e.comes he b ae) in
     let last = (not-over (is_some found && quiet) turn.is_last (ap (λ z. z || turn.is_last) (sym c.has_enough.ensures) ∙ sym c.is_over.ensures ∙ c.if-not-is_over.true)).1 in
     record {
-      counted = subst (λ (xs : List ChannelCount). IsCounted turn a h b k xs) is (counted_on frame a h b k read (is_some found && quiet) _ _ same places later over.0 begun walked last more (ended.through).conforms);
+      counted = subst (λ (xs : List ChannelCount). IsCounted turn a h b k xs) is (counted_in_part frame a h b k read (is_some found && quiet) _ _ same places later over.0 begun walked last more (ended.through).conforms);
       gathered = record { exported = ended.gathered; kept = λ l. absurd (other_way turn.is_last l last) };
       head = o.head;
     }
