@@ -21,6 +21,8 @@ give_up() {
 
 CDPATH='' cd -- "$(dirname -- "$0")/../.." || give_up "no folder of the project"
 mkdir -p out && : >out/test.log || give_up "no file for all that is said"
+# copies of the sources that a build left which was broken off: the toolchain would take them for others
+rm -rf out/room
 # as many tasks of rt ci, and as many modules of tests, side by side as the machine bears
 RT_JOBS=$(tools/gate/lanes.sh) || give_up "the number of tasks side by side isn't known"
 export RT_JOBS
