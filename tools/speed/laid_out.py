@@ -3,8 +3,8 @@
 
 usage: laid_out.py PROGRAM FOLDER [TURNS]
 
-It writes to FOLDER nights of 8 hours with 22 channels and with two, and one with an annotation in each second; nights with an
-annotation in each data record, whatever its time; and nights whose data records are small: 300,000 of 80 bytes, with no annotation
+It writes to FOLDER nights of 8 hours with 22 channels and with two, and one with an annotation in each second; one whose
+annotations stand one in each data record, from the first one on while they last; and nights whose data records are small: 300,000 of 80 bytes, with no annotation
 and with a scored stage in every 30 s, and 2,000,000 of 20 bytes. PROGRAM tests each by `conform` and lays it out by turns, nine
 times where no TURNS are said. A line for each says the medians of the processor's time, and how many times that of the test the
 layout takes.
@@ -34,7 +34,7 @@ def nights():
     """The nights, by what is told of them."""
     return {
         "22 channels": Night(EIGHT_HOURS),
-        "22 channels, one annotation in each data record": Night(EIGHT_HOURS, notes=in_each(EIGHT_HOURS // 30)),
+        "22 channels, annotations one in each data record": Night(EIGHT_HOURS, notes=in_each(EIGHT_HOURS // 30)),
         "22 channels, an annotation a second": Night(EIGHT_HOURS, notes=remarks(["Event"] * EIGHT_HOURS, EIGHT_HOURS)),
         "two channels": Night(EIGHT_HOURS, channels=2),
         "data records of 80 bytes, no annotation": Night(SMALL, channels=1, rate=8, lane=64, notes=[]),
