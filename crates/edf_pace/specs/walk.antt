@@ -8,5 +8,6 @@ pub mod Windows
 pub mod Watching
 pub mod Spots
 pub mod Hands
+pub mod Meetings
 pub mod Counting
 pub mod Ends

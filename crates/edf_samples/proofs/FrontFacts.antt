@@ -1,5 +1,5 @@
 -- The differences at the front of two stretches, sample by sample, and of those whose samples stand at the same instants.
-use Rattle.std.proofs.Common.{◌≡◌, ℕ, zero, suc, ◌+◌, ◌-◌, ◌*◌, ◌^◌, ◌<◌, ◌≤◌, min, Bool, true, false, cond, not, ℤ, pos, ◌+ℤ◌, ◌*ℤ◌, ⊎_elim, List, [], ◌∷◌, ◌++◌, map, filter, length, Some, refl, sym, ap, ◌∙◌, arith, Fits, w64}
+use Rattle.std.proofs.Common.{◌≡◌, ℕ, zero, suc, ◌+◌, ◌-◌, ◌*◌, ◌^◌, ◌<◌, ◌≤◌, min, Bool, true, false, cond, not, ℤ, pos, ◌+ℤ◌, ◌*ℤ◌, ⊎_elim, List, [], ◌∷◌, ◌++◌, map, filter, length, Option, Some, refl, sym, ap, ◌∙◌, arith, Fits, w64}
 use Rattle.std.specs.List.{range_with_len}
 use Rattle.std.specs.Ordering.{int_eq}
 use Rattle.std.specs.Option.{option_or}
@@ -23,12 +23,12 @@ use Rattle.edf_samples.specs.InstantOrder.{IsBefore}
 use Rattle.edf_samples.specs.Others.{ArePlaces, values_differ}
 use Rattle.edf_samples.specs.Differences.{instant}
 use Rattle.edf_samples.specs.Stretches.{are_on_one_grid, points_behind, sample_at}
-use Rattle.edf_samples.specs.Tallies.{all_behind, all_changed, all_extra, all_missing, alone, change, counted, differences_of, each_is, first_of, is_changed, is_extra, is_missing, joined, last_of, of_kind, tally_of}
+use Rattle.edf_samples.specs.Tallies.{all_behind, all_changed, all_extra, all_missing, alone, change, counted, differences_of, each_is, first_of, is_changed, is_extra, is_missing, joined, joined_kind, last_of, of_kind, tally_of}
 use Rattle.edf_samples.proofs.FilterFacts.{by_test}
 use Rattle.edf_samples.proofs.FractionFacts.{before_below, false-is_before, same_above, same_below, true-is_before}
 use Rattle.edf_samples.proofs.PlaceCountFacts.{places_within}
 use Rattle.edf_samples.proofs.StretchFacts.{behind-end, behind_step, next-instant, none-on, one-on}
-use Rattle.edf_samples.proofs.TallyFacts.{behind-extra, behind-missing, behind-other, behind-same, joined_none, joined_twice, kind_same, only-missing}
+use Rattle.edf_samples.proofs.TallyFacts.{behind-extra, behind-missing, behind-other, behind-same, changed_joined, joined_none, joined_twice, kind_joined, kind_none, kind_same, only-missing}
 
 -- ---- the samples at two places, and what is behind them
 
@@ -226,6 +226,39 @@ some_counted x y here there p first last fits f l test n are =
 pub none_counted : (x y : Stretch) (here there : ℕ) (test : ℕ → Bool) (n : ℕ) → ((k : ℕ) → k < n → test k ≡ false) → counted [] ≡ counted (map (λ k. change x (here * k) y (there * k)) (filter test (range_with_len 0 n)))
 none_counted x y here there test n none =
     sym (ap (λ ks. counted (map (λ k. change x (here * k) y (there * k)) ks)) (passing-none test 0 n (λ j le lt. none j (omega (arith, lt)))))
+
+-- some that were counted, and then others of two values
+pub changes_joined : (a : Counted) (x y : Stretch) (here there : ℕ) (p : Places) (k : ℕ) (last : PointDifference) → Fits w64 a.count → Fits w64 p.count → k ≡ min (a.count + p.count) (2 ^ 64 - 1)
+    → last ≡ change x (here * p.last) y (there * p.last) → (test : ℕ → Bool) (n : ℕ) → ArePlaces test n p
+    → record { count = k; first = option_or a.first (Some (change x (here * p.first) y (there * p.first))); last = Some last }
+    ≡ joined_kind a (counted (map (λ k. change x (here * k) y (there * k)) (filter test (range_with_len 0 n))))
+changes_joined a x y here there p k last fits few more l test n are =
+    let one : PointDifference = change x (here * p.first) y (there * p.first) in
+    kind_joined a (record { count = p.count; first = Some one; last = Some last }) k fits more
+    ∙ ap (joined_kind a) (some_counted x y here there p one last few refl l test n are)
+
+pub no_changes_joined : (a : Counted) (x y : Stretch) (here there : ℕ) (test : ℕ → Bool) (n : ℕ) → ((k : ℕ) → k < n → test k ≡ false)
+    → a ≡ joined_kind a (counted (map (λ k. change x (here * k) y (there * k)) (filter test (range_with_len 0 n))))
+no_changes_joined a x y here there test n none = sym (kind_none a) ∙ ap (joined_kind a) (none_counted x y here there test n none)
+
+-- the same of a tally
+pub changes_taken : (a : Tally) (c : Counted) (first : Option PointDifference) (x y : Stretch) (p : Places) → Fits w64 p.count → (test : ℕ → Bool) (n : ℕ) → ArePlaces test n p
+    → c ≡ joined_kind a.changed (counted (map (λ k. change x (1 * k) y (1 * k)) (filter test (range_with_len 0 n)))) → first ≡ option_or a.first (Some (change x p.first y p.first))
+    → record { missing = a.missing; extra = a.extra; changed = c; first = first } ≡ joined a (all_changed (counted (map (λ k. change x (1 * k) y (1 * k)) (filter test (range_with_len 0 n)))))
+changes_taken a c first x y p few test n are more f =
+    let all = counted (map (λ k. change x (1 * k) y (1 * k)) (filter test (range_with_len 0 n))) in
+    let one : Some (change x p.first y p.first) ≡ all.first =
+    ap (λ k. Some (change x k y k)) (sym (one-times p.first)) ∙ ap (λ (c : Counted). c.first) (some_counted x y 1 1 p _ _ few refl refl test n are)
+    in
+    ap (λ o. record { missing = a.missing; extra = a.extra; changed = c; first = o }) (f ∙ ap (option_or a.first) one) ∙ changed_joined a c all more
+
+nothing-changed : (a : Tally) → a ≡ joined a (all_changed (counted []))
+unfolding tally_of counted
+nothing-changed a = sym (joined_none a)
+
+pub no_changes_taken : (a : Tally) (x y : Stretch) (test : ℕ → Bool) (n : ℕ) → ((k : ℕ) → k < n → test k ≡ false)
+    → a ≡ joined a (all_changed (counted (map (λ k. change x (1 * k) y (1 * k)) (filter test (range_with_len 0 n)))))
+no_changes_taken a x y test n none = nothing-changed a ∙ ap (λ c. joined a (all_changed c)) (none_counted x y 1 1 test n none)
 
 -- samples that stand alone, from a first one to a last one
 pub range_last : (f : ℕ → PointDifference) (a n : ℕ) → last_of (map f (range_with_len a (suc n))) ≡ Some (f (a + n))

@@ -11,4 +11,5 @@ pub mod BlockFacts
 pub mod PlaceCountFacts
 pub mod ValueFacts
 pub mod FrontFacts
+pub mod MeetingFacts
 pub mod rates

@@ -76,7 +76,7 @@ kind-parts is a xs ys =
     kind-twice a (of_kind is xs) (of_kind is ys) ∙ ap (λ ds. joined_kind a (counted ds)) (sym (filter-append (λ (d : PointDifference). is d.mismatch) xs ys))
 
 -- nothing more, and nothing before
-kind_none : (a : Counted) → joined_kind a (counted []) ≡ a
+pub kind_none : (a : Counted) → joined_kind a (counted []) ≡ a
 unfolding joined_kind counted
 kind_none a = kind_same (joined_kind a (counted [])) a (no_more a.count (2 ^ 64 - 1)) (or_nothing a.first) refl
   where
@@ -140,13 +140,11 @@ changed_joined a c more e =
     tally_same (record { missing = a.missing; extra = a.extra; changed = c; first = option_or a.first more.first }) (joined a (all_changed more))
     (sym (kind_none a.missing)) (sym (kind_none a.extra)) e refl
 
--- those of each kind, where the first of all was kept before
-pub kinds_joined : (a t : Tally) (first : Option PointDifference) → joined (record { missing = a.missing; extra = a.extra; changed = a.changed; first = option_or a.first first }) (record { missing = t.missing; extra = t.extra; changed = t.changed; first = None })
-    ≡ joined a (record { missing = t.missing; extra = t.extra; changed = t.changed; first = first })
+-- those of each kind, and the first of all
+pub kinds_joined : (a t : Tally) (m e c : Counted) (first : Option PointDifference) → m ≡ joined_kind a.missing t.missing → e ≡ joined_kind a.extra t.extra → c ≡ joined_kind a.changed t.changed → first ≡ option_or a.first t.first
+    → record { missing = m; extra = e; changed = c; first = first } ≡ joined a t
 unfolding joined
-kinds_joined a t first =
-    tally_same (joined (record { missing = a.missing; extra = a.extra; changed = a.changed; first = option_or a.first first }) (record { missing = t.missing; extra = t.extra; changed = t.changed; first = None }))
-    (joined a (record { missing = t.missing; extra = t.extra; changed = t.changed; first = first })) refl refl refl (or_nothing (option_or a.first first))
+kinds_joined a t m e c first p q r f = tally_same (record { missing = m; extra = e; changed = c; first = first }) (joined a t) p q r f
 
 -- one difference more, and of each kind
 pub one_joined : (a : Counted) (d : PointDifference) (k : ℕ) → Fits w64 a.count → k ≡ min (a.count + 1) (2 ^ 64 - 1) → record { count = k; first = option_or a.first (Some d); last = Some d } ≡ joined_kind a (counted (d ∷ []))

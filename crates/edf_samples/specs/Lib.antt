@@ -7,3 +7,4 @@ pub mod Shares
 pub mod Strides
 pub mod Others
 pub mod Tallies
+pub mod Meetings

@@ -2,7 +2,7 @@
 use Rattle.std.specs.Prelude.{◌≡◌, ◌≢◌, ℕ, zero, suc, ◌+◌, ◌*◌, ◌<◌, ℤ, pos, ◌*ℤ◌, ◌<ℤ◌, List, [], ◌++◌}
 use Rattle.std.specs.Int.{IsGcd, ◌∣◌}
 use Rattle.std.specs.List.{range_with_len}
-use Rattle.edf_samples.specs.declared.counts.ratio.Strides.{Strides}
+use Rattle.edf_samples.specs.declared.counts.strides.Strides.{Strides}
 use Rattle.edf_samples.specs.declared.stretch.Stretch.{Stretch}
 
 -- how far a sample of the first stretch stands behind the one before it, times both denominators

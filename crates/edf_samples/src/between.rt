@@ -2,7 +2,7 @@
 
 ghost use Rattle.std.specs.Prelude.{◌≡◌, ◌≤◌, ◌<◌, ◌*◌, ◌^◌, length, unsigned_abs};
 ghost use Rattle.edf_samples.specs.declared.times.Window.{Window};
-ghost use Rattle.edf_samples.specs.Shares.{IsPartBy, IsShareOf};
+ghost use Rattle.edf_samples.specs.Shares.{IsCutBy, IsPartBy, IsShareOf};
 ghost use Rattle.edf_samples.specs.Stretches.{points_in, IsBounded, IsPart, stretch_points, since, until};
 
 use crate::share::Share;
@@ -48,6 +48,7 @@ pub fn part_by<'a>(lane: &'a [u8], step: i128, share: &Share) -> Stretch<'a>
     ensures part { IsPart result }
     ensures den { result.den ≡ share.now.samples }
     ensures value { IsPartBy share.now step lane.entry.now (points_in result) }
+    ensures cut { IsCutBy share.now step result }
 {
     Stretch {
         num: share.num,

@@ -1,3 +1,4 @@
+pub mod HandFacts
 pub mod SpotFacts
 pub mod CountFacts
 pub mod CountedFacts

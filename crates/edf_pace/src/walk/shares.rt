@@ -1,6 +1,6 @@
 //! Which samples of two files stand between two times.
 
-ghost use Rattle.std.specs.Prelude.{◌≡◌, ◌<◌, ◌≤◌, ◌+ℤ◌, ◌*ℤ◌, ◌^◌, ◌*◌, pos, true, length, IsTrue, Some, IfSome, unsigned_abs};
+ghost use Rattle.std.specs.Prelude.{◌≡◌, ◌<◌, ◌≤◌, ◌+ℤ◌, ◌*ℤ◌, ◌^◌, ◌*◌, pos, true, false, length, IsTrue, Some, IfSome, unsigned_abs};
 ghost use Rattle.edf_claim.specs.Keeps.{keeps_instant};
 ghost use Rattle.edf_stream.specs.records.Readers.{is_current};
 ghost use Rattle.edf_stream.specs.records.Records.{lane_of};
@@ -107,7 +107,7 @@ struct Look {
 }
 
 /// Puts the same in the place of `held`, where it is wanted and the channel has another number of samples than the
-/// lanes of that. Where there is no such channel, or no data record at hand, what is held stays.
+/// lanes of that, and answers whether it did. Where there is no such channel, or no data record at hand, what is held stays.
 #[inline(always)]
 fn keep_share(
     reader: &FileReader,
@@ -115,18 +115,21 @@ fn keep_share(
     look: Look,
     is_wanted: bool,
     held: &mut Share,
-)
+) -> bool
     requires track { IfSome track (IsTrack reader.now.head) }
     requires held { IsShareIn reader.now (look.moved).ps look.within held.old }
     ensures samples { is_wanted ≡ true →
         IfSome track (λ t. IfAtHand reader.now (held.new.samples ≡ t.place.samples)) }
     ensures share { IsShareIn reader.now (look.moved).ps look.within held.new }
+    ensures same { result ≡ false → held.new ≡ held.old }
 {
     if let Some(track) = track {
         if is_wanted && held.samples != track.place.samples && reader.has_current() {
             *held = share_at(reader, track, look.moved, look.within);
+            return true;
         }
     }
+    false
 }
 
 /// Whether a claim keeps what stands at a time.
@@ -165,7 +168,7 @@ pub(crate) struct Sight {
 }
 
 /// Puts those of a pair in the place of what is held, where its channels have other numbers of samples than the lanes of
-/// that: of the original only where the claim keeps what stands there.
+/// that: of the original only where the claim keeps what stands there. It answers whether anything was put there.
 #[inline(always)]
 pub(crate) fn keep_shares(
     original: &FileReader,
@@ -173,7 +176,7 @@ pub(crate) fn keep_shares(
     pair: Pair,
     sight: Sight,
     shares: &mut Shares,
-)
+) -> bool
     requires original { IfSome pair.original (IsTrack original.now.head) }
     requires export { IfSome pair.export (IsTrack export.now.head) }
     requires held { AreSharesIn original.now export.now sight.clock sight.within shares.old }
@@ -182,6 +185,7 @@ pub(crate) fn keep_shares(
     ensures original_share { shares.new.is_kept ≡ true →
         HasShare original.now pair.original shares.new.original }
     ensures export_share { HasShare export.now pair.export shares.new.export }
+    ensures same { result ≡ false → shares.new ≡ shares.old }
 {
     let Sight { clock, within } = sight;
     let here = Look {
@@ -192,12 +196,13 @@ pub(crate) fn keep_shares(
         moved: clock.export,
         within,
     };
-    keep_share(
+    let has_original = keep_share(
         original,
         pair.original,
         here,
         shares.is_kept,
         &mut shares.original,
     );
-    keep_share(export, pair.export, there, true, &mut shares.export);
+    let has_export = keep_share(export, pair.export, there, true, &mut shares.export);
+    has_original || has_export
 }

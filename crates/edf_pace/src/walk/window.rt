@@ -5,6 +5,7 @@ ghost use Rattle.edf_claim.specs.Keeps.{keeps_instant};
 ghost use Rattle.edf_claim.specs.KeepsReading.{IsUncut};
 ghost use Rattle.edf_stream.specs.records.Readers.{is_current};
 ghost use Rattle.edf_samples.specs.InstantOrder.{IsModest};
+ghost use Rattle.edf_samples.specs.Shares.{IsCutBy};
 ghost use Rattle.edf_samples.specs.Stretches.{points_in, IsPart};
 ghost use Rattle.edf_pace.specs.walk.Windows.{AreKeptOf, AreShown, IsDifferenceBy, IsPairIn, HasShare};
 ghost use Rattle.edf_pace.specs.walk.Pairs.{AreAlikeIn, ArePairs, IsTrack};
@@ -19,7 +20,20 @@ use edf_samples::{
 };
 use edf_stream::FileReader;
 
-/// The samples of a channel between two times: those of its share.
+/// The samples of a channel in the data record at hand, between two times: those of its share.
+pub(crate) fn shown<'a>(reader: &'a FileReader, track: Track, share: &Share) -> Stretch<'a>
+    requires current { IsTrue (is_current reader.now.status) }
+    requires track { IsTrack reader.now.head track }
+    requires share { share.now.samples ≡ track.place.samples }
+    ensures part { IsPart result }
+    ensures den { result.den ≡ track.place.samples }
+    ensures value { AreShown reader.now share.now track.place (points_in result) }
+    ensures cut { IsCutBy share.now (reader.now.head).duration result }
+{
+    part_by(lane_at(reader, track), reader.header().duration_ps(), share)
+}
+
+/// The samples of a channel between two times.
 pub(crate) fn window<'a>(reader: &'a FileReader, track: Track, share: &Share) -> Stretch<'a>
     requires track { IsTrack reader.now.head track }
     requires share { is_current reader.now.status ≡ true → share.now.samples ≡ track.place.samples }
@@ -28,7 +42,7 @@ pub(crate) fn window<'a>(reader: &'a FileReader, track: Track, share: &Share) ->
     ensures value { AreShown reader.now share.now track.place (points_in result) }
 {
     if reader.has_current() {
-        part_by(lane_at(reader, track), reader.header().duration_ps(), share)
+        shown(reader, track, share)
     } else {
         no_samples(track.place.samples)
     }

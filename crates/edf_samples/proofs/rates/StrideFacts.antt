@@ -514,25 +514,16 @@ strides-first x y b p q n are lx ly s =
     nonempty (suc p) q are s =
         none-first is_missing s.ds (all_behind x (suc (suc p) * (0 + suc n)) y (suc q * (0 + suc n))) (subst (λ es. 0 < length es) (sym s.missing) (some-between (alone Missing x) p 0 n))
 
--- the first of all, by that of each kind
-firsts-of-kinds : (x y : Stretch) (p q n : ℕ) → suc p ≢ suc q → (one : ℕ → PointDifference) (test : ℕ → Bool)
-    → cond (test 0) (Some (one 0)) (cond (nat_lt (suc q) (suc p)) (Some (alone Missing x 1)) (Some (alone Extra y 1)))
-    ≡ cond (test 0) (first_of (map one (filter test (range_with_len 0 (suc n))))) (cond (nat_lt (suc q) (suc p)) (first_of (map (alone Missing x) (between (suc p) 0 (suc n)))) (first_of (map (alone Extra y) (between (suc q) 0 (suc n)))))
-firsts-of-kinds x y p q n other one test =
-    by_test (test 0) (λ t. cond t (Some (one 0)) alone-first ≡ cond t (first_of (map one (cond t (0 ∷ later) later))) alone-of-kinds) (λ h. refl)
-    (λ h. by_test (nat_lt (suc q) (suc p))
+-- the first of all, by the first of those that one has alone
+firsts-of-kinds : (x y : Stretch) (p q n : ℕ) → suc p ≢ suc q → (b : Bool) (one : Option PointDifference)
+    → cond b one (cond (nat_lt (suc q) (suc p)) (Some (alone Missing x 1)) (Some (alone Extra y 1)))
+    ≡ cond b one (cond (nat_lt (suc q) (suc p)) (first_of (map (alone Missing x) (between (suc p) 0 (suc n)))) (first_of (map (alone Extra y) (between (suc q) 0 (suc n)))))
+firsts-of-kinds x y p q n other b one =
+    ap (λ o. cond b one o)
+    (by_test (nat_lt (suc q) (suc p))
     (λ t. cond t (Some (alone Missing x 1)) (Some (alone Extra y 1)) ≡ cond t (first_of (map (alone Missing x) (between (suc p) 0 (suc n)))) (first_of (map (alone Extra y) (between (suc q) 0 (suc n)))))
     (λ h. let less = ltb-true (suc q) (suc p) h in missing p (omega (arith, less))) (λ h. let le = ltb-false (suc q) (suc p) h in extra q (omega (arith, le, other))))
   where
-    later : List ℕ
-    later = filter test (range_with_len (0 + 1) n)
-
-    alone-first : Option PointDifference
-    alone-first = cond (nat_lt (suc q) (suc p)) (Some (alone Missing x 1)) (Some (alone Extra y 1))
-
-    alone-of-kinds : Option PointDifference
-    alone-of-kinds = cond (nat_lt (suc q) (suc p)) (first_of (map (alone Missing x) (between (suc p) 0 (suc n)))) (first_of (map (alone Extra y) (between (suc q) 0 (suc n))))
-
     missing : (p : ℕ) → 0 < p → Some (alone Missing x 1) ≡ first_of (map (alone Missing x) (between (suc p) 0 (suc n)))
     missing zero some = absurd (omega (arith, some))
     missing (suc p) some = sym (first-between (alone Missing x) p n)
@@ -552,7 +543,7 @@ pub strided_counted : (a b t : Tally) (c m e : Counted) (x y : Stretch) (p q n :
     → AreStrides x y (record { here = p; there = q }) → 0 < n → 2 * (p * n) ≤ length x.bytes.now → 2 * (q * n) ≤ length y.bytes.now
     → c ≡ counted (map (λ k. change x (p * k) y (q * k)) (filter (values_differ_at p q x.bytes.now y.bytes.now) (range_with_len 0 n)))
     → m ≡ counted (map (alone Missing x) (between p 0 n)) → e ≡ counted (map (alone Extra y) (between q 0 n))
-    → t ≡ record { missing = m; extra = e; changed = c; first = cond (values_differ_at p q x.bytes.now y.bytes.now 0) c.first (cond (nat_lt q p) m.first e.first) } → b ≡ joined a t
+    → t ≡ record { missing = m; extra = e; changed = c; first = cond (values_differ_at p q x.bytes.now y.bytes.now 0) (Some (change x 0 y 0)) (cond (nat_lt q p) m.first e.first) } → b ≡ joined a t
     → joined b (tally_of (all_behind x (p * n) y (q * n))) ≡ joined a (tally_of (all_behind x 0 y 0))
 strided_counted a b t c m e x y zero q n px py start are some lx ly changes gone come is more = absurd (let h = are.some_here in omega (arith, h))
 strided_counted a b t c m e x y (suc p) zero n px py start are some lx ly changes gone come is more = absurd (let h = are.some_there in omega (arith, h))
@@ -568,18 +559,21 @@ strided_counted a b t c m e x y (suc p) (suc q) (suc n) px py start are some lx 
     let cs = map g (filter test (range_with_len 0 (suc n))) in
     let ms = map (alone Missing x) (between (suc p) 0 (suc n)) in
     let es = map (alone Extra y) (between (suc q) 0 (suc n)) in
-    let made : Counted → Counted → Counted → Tally =
-    λ k l j. record { missing = l; extra = j; changed = k; first = cond (test 0) k.first (cond (nat_lt (suc q) (suc p)) l.first j.first) }
-    in
+    let lt = nat_lt (suc q) (suc p) in
+    let one : Option PointDifference = Some (change x 0 y 0) in
+    let alone-first : Option PointDifference = cond lt (Some (alone Missing x 1)) (Some (alone Extra y 1)) in
+    let made : Counted → Counted → Counted → Tally = λ k l j. record { missing = l; extra = j; changed = k; first = cond (test 0) one (cond lt l.first j.first) } in
     let none-i : suc p * 0 ≡ 0 = omega arith in
     let none-j : suc q * 0 ≡ 0 = omega arith in
     front_counted a b t s.ds x y (suc p * suc n) (suc q * suc n) more
     (is ∙ ap (λ k. made k m e) changes ∙ ap (λ k. made (counted cs) k e) gone ∙ ap (λ k. made (counted cs) (counted ms) k) come
     ∙ ap (λ o. record { missing = counted ms; extra = counted es; changed = counted cs; first = o })
-    (ap (λ o. cond (test 0) o (cond (nat_lt (suc q) (suc p)) (counted ms).first (counted es).first)) (first_counted cs)
-    ∙ ap (λ o. cond (test 0) (first_of cs) (cond (nat_lt (suc q) (suc p)) o (counted es).first)) (first_counted ms)
-    ∙ ap (λ o. cond (test 0) (first_of cs) (cond (nat_lt (suc q) (suc p)) (first_of ms) o)) (first_counted es)
-    ∙ sym (strides-first x y begins p q n are lx' ly' s ∙ firsts-of-kinds x y p q n are.other_rates g test))
+    (ap (λ o. cond (test 0) one (cond lt o (counted es).first)) (first_counted ms)
+    ∙ ap (λ o. cond (test 0) one (cond lt (first_of ms) o)) (first_counted es)
+    ∙ sym
+    (strides-first x y begins p q n are lx' ly' s
+    ∙ ap (λ k. cond (test 0) (Some (change x k y (suc q * 0))) alone-first) none-i ∙ ap (λ k. cond (test 0) (Some (change x 0 y k)) alone-first) none-j
+    ∙ firsts-of-kinds x y p q n are.other_rates (test 0) one))
     ∙ sym (tally_kinds s.ds ms es cs s.missing s.extra s.changed))
     (ap (λ k. all_behind x k y 0) (sym none-i) ∙ ap (λ k. all_behind x (suc p * 0) y k) (sym none-j) ∙ s.whole
     ∙ ap (λ k. s.ds ++ all_behind x (suc p * k) y (suc q * k)) whole)

@@ -13,6 +13,9 @@ const MANY: usize = 64;
 
 const SOME: usize = 16;
 
+/// How many of the last ones are compared at a time that are half as many or fewer.
+const FEW: usize = 32;
+
 /// How many bytes are loaded at a time.
 const BLOCK: usize = 32;
 
@@ -171,7 +174,7 @@ fn others_of<const STRIDE: usize, const WIDTH: usize>(
     number: usize,
 ) -> u64
     requires stride { (STRIDE ≡ 1) ⊎ (STRIDE ≡ 2) }
-    requires width { (WIDTH ≡ 16) ⊎ (WIDTH ≡ 64) }
+    requires width { (WIDTH ≡ 16) ⊎ (WIDTH ≡ 32) ⊎ (WIDTH ≡ 64) }
     requires long { 2 * (STRIDE * (number + WIDTH)) ≤ length long.now }
     requires short { 2 * (number + WIDTH) ≤ length short.now }
     ensures { result ≡ mask_l (map (λ k. differs STRIDE long.now short.now (number + k))
@@ -179,6 +182,8 @@ fn others_of<const STRIDE: usize, const WIDTH: usize>(
 {
     if WIDTH == 16 {
         others_of_16::<STRIDE>(long, short, number)
+    } else if WIDTH == 32 {
+        others_of_32::<STRIDE>(long, short, number)
     } else {
         others_of_64::<STRIDE>(long, short, number)
     }
@@ -195,7 +200,7 @@ fn with_last<const STRIDE: usize, const WIDTH: usize>(
     before: Option<Places>,
 ) -> Option<Places>
     requires stride { (STRIDE ≡ 1) ⊎ (STRIDE ≡ 2) }
-    requires width { (WIDTH ≡ 16) ⊎ (WIDTH ≡ 64) }
+    requires width { (WIDTH ≡ 16) ⊎ (WIDTH ≡ 32) ⊎ (WIDTH ≡ 64) }
     requires from { from ≤ count }
     requires few { count < from + WIDTH }
     requires many { WIDTH ≤ count }
@@ -231,6 +236,9 @@ fn numbers_at_once<const STRIDE: usize, const WIDTH: usize>(
         let others = others_of::<STRIDE, WIDTH>(long, short, number);
         places = with_others(places, number, others);
         number += WIDTH;
+    }
+    if WIDTH == MANY && count - number < FEW {
+        return with_last::<STRIDE, FEW>(long, short, number, count, places);
     }
     with_last::<STRIDE, WIDTH>(long, short, number, count, places)
 }

@@ -1,12 +1,14 @@
 //! How many samples of two stretches differ.
 
 ghost use Rattle.std.specs.Prelude.{◌≡◌, ◌≤◌, ◌+◌, ◌*◌, ◌⊎◌, length};
+ghost use Rattle.edf_samples.specs.Meetings.{IsMeeting};
 ghost use Rattle.edf_samples.specs.Stretches.{IsPart};
 ghost use Rattle.edf_samples.specs.Tallies.{all_of, each_is, joined, lacks_first, lacks_second, tally_of, with_rest};
 
-use crate::counts::front::{alone_behind, count_front};
+use crate::counts::alone::alone_behind;
+use crate::counts::front::count_front;
 use crate::counts::head::{difference_at, head_at, head_behind};
-use crate::counts::ratio::Ratio;
+use crate::counts::meeting::Meeting;
 use crate::counts::tally::Tally;
 use crate::difference::PointDifference;
 use crate::stretch::{Stretch, count_in};
@@ -40,6 +42,7 @@ fn is_extra(found: Option<PointDifference>) -> bool
 
 /// Counts the differences of two stretches behind so many samples of each, up to where one of them has no more, and answers how
 /// many of each were passed.
+#[inline(always)]
 fn count_both(
     x: Stretch,
     x_from: usize,
@@ -99,14 +102,15 @@ fn count_extra(y: Stretch, from: usize, tally: &mut Tally)
     }
 }
 
-/// Counts all differences of two stretches of one channel. The ratio of their rates is held for the next two that have it, where it
-/// had to be found.
-pub fn count_differences(x: Stretch, y: Stretch, held: &mut Option<Ratio>, tally: &mut Tally)
+/// Counts all differences of two stretches of one channel that meet so.
+#[inline(always)]
+pub fn count_differences(x: Stretch, y: Stretch, meeting: &Meeting, tally: &mut Tally)
     requires x { IsPart x }
     requires y { IsPart y }
+    requires meeting { IsMeeting x y meeting.now }
     ensures { tally.new ≡ joined tally.old (tally_of (all_of x.entry y.entry)) }
 {
-    let (x_from, y_from) = count_front(x, y, held, tally);
+    let (x_from, y_from) = count_front(x, y, meeting, tally);
     let (i, j) = count_both(x, x_from, y, y_from, tally);
     count_missing(x, i, tally);
     count_extra(y, j, tally);

@@ -60,8 +60,8 @@ impl Counted {
     /// Takes in others, which are behind these.
     #[inline(always)]
     #[tactic(auto, using(crate::proofs::TallyFacts::kind_joined))]
-    pub(crate) fn add(&mut self, others: Counted)
-        ensures { self.new ≡ joined_kind self.old others }
+    pub(crate) fn add(&mut self, others: &Counted)
+        ensures { self.new ≡ joined_kind self.old others.now }
     {
         self.count = self.count.saturating_add(others.count);
         keep_first_of(&mut self.first, others.first);

@@ -1,92 +1,26 @@
 //! The front of two stretches whose samples stand at the same instants: its differences are counted at once.
 
-ghost use Rattle.std.specs.Prelude.{◌≡◌, ◌<◌, ◌≤◌, ◌+◌, ◌-◌, ◌*◌, ◌^◌, ℕ, Bool, true, not, pos, ◌*ℤ◌, nat_lt, IfSome, if◌then◌else◌, length, map, filter};
+ghost use Rattle.std.specs.Prelude.{◌≡◌, ◌<◌, ◌≤◌, ◌+◌, ◌*◌, ℕ, Bool, true, not, nat_lt, IfSome, Some, if◌then◌else◌, length, map, filter};
 ghost use Rattle.std.specs.List.{range_with_len};
 ghost use Rattle.std.specs.Option.{option_or};
 ghost use Rattle.std.specs.Ordering.{int_eq};
 ghost use Rattle.edf_stream.specs.samples.Values.{digital_value};
+ghost use Rattle.edf_samples.specs.Meetings.{AreWholeStrides, IsMeeting};
 ghost use Rattle.edf_samples.specs.Others.{AreOthers};
 ghost use Rattle.edf_samples.specs.Stretches.{IsPart, are_on_one_grid};
-ghost use Rattle.edf_samples.specs.Strides.{AreStrides, between};
-ghost use Rattle.edf_samples.specs.Tallies.{alone, change, counted, each_is, with_rest};
+ghost use Rattle.edf_samples.specs.Tallies.{all_changed, change, counted, joined, joined_kind, with_rest};
 
 use crate::counts::blocks::numbers_of;
 use crate::counts::counted::Counted;
-use crate::counts::numbers::{numbers_at, whole_strides};
+use crate::counts::meeting::{Meeting, WholeStrides};
+use crate::counts::numbers::numbers_at;
 use crate::counts::places::Places;
-use crate::counts::ratio::{Ratio, Strides};
-use crate::counts::strides::strides_of;
+use crate::counts::strides::Strides;
 use crate::counts::tally::Tally;
 use crate::difference::PointDifference;
-use crate::stretch::{Stretch, count_in, instant_at, is_one_grid};
+use crate::stretch::{Stretch, count_in, instant_at};
 use edf_stream::value_at;
 use edf_verdict::SampleMismatch;
-
-/// The sample at a place, which one file has alone.
-#[inline(always)]
-pub(crate) fn alone_at(x: Stretch, place: usize, mismatch: SampleMismatch) -> PointDifference
-    requires x { IsPart x }
-    requires place { place ≤ 2 ^ 23 }
-    ensures { result ≡ alone mismatch x.entry place }
-{
-    PointDifference {
-        at: instant_at(x, place),
-        mismatch,
-    }
-}
-
-/// Samples that one file has alone, by their places.
-#[inline(always)]
-fn alone_among(x: Stretch, places: Places, mismatch: SampleMismatch) -> Counted
-    requires x { IsPart x }
-    requires some { 0 < places.count }
-    requires first { places.first ≤ 2 ^ 23 }
-    requires last { places.last ≤ 2 ^ 23 }
-    ensures { (place : ℕ → ℕ) → places.first ≡ place 0 → places.last ≡ place (places.count - 1) →
-        result ≡ counted (map (λ k. alone mismatch x.entry (place k)) (range_with_len 0 places.count)) }
-{
-    Counted {
-        count: places.count as u64,
-        first: Some(alone_at(x, places.first, mismatch)),
-        last: Some(alone_at(x, places.last, mismatch)),
-    }
-}
-
-/// The samples of a stretch from a place on, which one file has alone.
-#[inline(always)]
-pub(crate) fn alone_behind(x: Stretch, from: usize, mismatch: SampleMismatch) -> Counted
-    requires x { IsPart x }
-    requires from { 2 * from + 1 < length x.bytes.now }
-    ensures { result ≡ counted (each_is mismatch x.entry from) }
-{
-    let end = count_in(x.bytes);
-    let places = Places {
-        count: end - from,
-        first: from,
-        last: end - 1,
-    };
-    alone_among(x, places, mismatch)
-}
-
-/// The samples of so many strides of a stretch, but for the first one of each.
-#[inline(always)]
-#[tactic(auto, using(crate::proofs::rates::StrideFacts::stride_alone, crate::proofs::rates::StrideFacts::stride_counted))]
-fn alone_between(x: Stretch, stride: usize, count: usize, mismatch: SampleMismatch) -> Counted
-    requires x { IsPart x }
-    requires stride { 0 < stride }
-    requires some { 0 < count }
-    requires count { 2 * (stride * count) ≤ length x.bytes.now }
-    ensures { result ≡ counted (map (alone mismatch x.entry) (between stride 0 count)) }
-{
-    if stride == 1 {
-        return Counted::none();
-    }
-    Counted {
-        count: ((stride - 1) * count) as u64,
-        first: Some(alone_at(x, 1, mismatch)),
-        last: Some(alone_at(x, stride * count - 1, mismatch)),
-    }
-}
 
 /// Two samples at one instant that have two values.
 #[inline(always)]
@@ -102,26 +36,55 @@ pub(crate) fn change_at(x: Stretch, here: usize, y: Stretch, there: usize) -> Po
     }
 }
 
-/// Samples at the same instants that have two values, by their numbers: the places of the first and of the second are so many
-/// times these.
+/// Keeps the difference of two samples at one instant that have two values as the first one, if there is none before it: elsewhere it
+/// isn't reckoned.
 #[inline(always)]
-fn changes_at(x: Stretch, here: usize, y: Stretch, there: usize, numbers: Option<Places>) -> Counted
+fn keep_first_change(
+    first: &mut Option<PointDifference>,
+    x: Stretch,
+    here: usize,
+    y: Stretch,
+    there: usize,
+)
     requires x { IsPart x }
-    requires first_here { IfSome numbers (λ p. 2 * (here * p.first) + 1 < length x.bytes.now) }
-    requires last_here { IfSome numbers (λ p. 2 * (here * p.last) + 1 < length x.bytes.now) }
-    requires first_there { IfSome numbers (λ p. 2 * (there * p.first) + 1 < length y.bytes.now) }
-    requires last_there { IfSome numbers (λ p. 2 * (there * p.last) + 1 < length y.bytes.now) }
-    ensures { (test : ℕ → Bool) (n : ℕ) → AreOthers test n numbers →
-        result ≡ counted (map (λ k. change x.entry (here * k) y.entry (there * k))
-        (filter test (range_with_len 0 n))) }
+    requires here { 2 * here + 1 < length x.bytes.now }
+    requires there { 2 * there + 1 < length y.bytes.now }
+    ensures { first.new ≡ option_or first.old (Some (change x.entry here y.entry there)) }
 {
+    if first.is_none() {
+        *first = Some(change_at(x, here, y, there));
+    }
+}
+
+/// Takes in samples at the same instants that have two values, by their numbers: the places of the first and of the second are so
+/// many times these. They are behind those that were taken in.
+#[inline(always)]
+fn add_changes(
+    changed: &mut Counted,
+    x: Stretch,
+    y: Stretch,
+    strides: Strides,
+    numbers: Option<Places>,
+)
+    requires x { IsPart x }
+    requires first_here { IfSome numbers (λ p. 2 * (strides.here * p.first) + 1 < length x.bytes.now) }
+    requires last_here { IfSome numbers (λ p. 2 * (strides.here * p.last) + 1 < length x.bytes.now) }
+    requires first_there { IfSome numbers (λ p. 2 * (strides.there * p.first) + 1 < length y.bytes.now) }
+    requires last_there { IfSome numbers (λ p. 2 * (strides.there * p.last) + 1 < length y.bytes.now) }
+    ensures { (test : ℕ → Bool) (n : ℕ) → AreOthers test n numbers →
+        changed.new ≡ joined_kind changed.old (counted (map
+        (λ k. change x.entry (strides.here * k) y.entry (strides.there * k))
+        (filter test (range_with_len 0 n)))) }
+{
+    let Strides { here, there } = strides;
     match numbers {
-        Some(places) => Counted {
-            count: places.count as u64,
-            first: Some(change_at(x, here * places.first, y, there * places.first)),
-            last: Some(change_at(x, here * places.last, y, there * places.last)),
-        },
-        None => Counted::none(),
+        Some(places) => {
+            let (one, other) = (here * places.first, there * places.first);
+            keep_first_change(&mut changed.first, x, one, y, other);
+            changed.count = changed.count.saturating_add(places.count as u64);
+            changed.last = Some(change_at(x, here * places.last, y, there * places.last));
+        }
+        None => {}
     }
 }
 
@@ -151,40 +114,64 @@ fn first_alone(strides: Strides, missing: Counted, extra: Counted) -> Option<Poi
 #[inline(always)]
 fn first_of_both(
     differ: bool,
-    changed: Counted,
+    changed: PointDifference,
     alone: Option<PointDifference>,
 ) -> Option<PointDifference>
-    ensures { result ≡ if differ then changed.first else alone }
+    ensures { result ≡ if differ then Some changed else alone }
 {
-    if differ { changed.first } else { alone }
+    if differ { Some(changed) } else { alone }
 }
 
-/// Keeps the first difference of whole strides of two stretches, of which these are those of each kind, as the first one, if there is
-/// none before it: elsewhere it isn't looked for.
+/// Keeps the first difference of whole strides of two stretches as the first one, if there is none before it: elsewhere it isn't
+/// looked for.
 #[inline(always)]
 fn keep_first_apart(
     x: Stretch,
     y: Stretch,
-    strides: Strides,
-    kinds: Tally,
+    whole: &WholeStrides,
     first: &mut Option<PointDifference>,
 )
-    requires x { 1 < length x.bytes.now }
-    requires y { 1 < length y.bytes.now }
+    requires x { IsPart x }
+    requires here { 1 < length x.bytes.now }
+    requires there { 1 < length y.bytes.now }
     ensures { first.new ≡ option_or first.old
         (if not (int_eq (digital_value x.entry.bytes.now 0) (digital_value y.entry.bytes.now 0))
-        then kinds.changed.first
-        else (if nat_lt strides.there strides.here then kinds.missing.first else kinds.extra.first)) }
+        then Some (change x.entry 0 y.entry 0)
+        else (if nat_lt (whole.now.strides).there (whole.now.strides).here
+        then (whole.now.missing).first else (whole.now.extra).first)) }
 {
     if first.is_none() {
         let differ = begin_apart(x.bytes, y.bytes);
-        let alone = first_alone(strides, kinds.missing, kinds.extra);
-        *first = first_of_both(differ, kinds.changed, alone);
+        let alone = first_alone(whole.strides, whole.missing, whole.extra);
+        *first = first_of_both(differ, change_at(x, 0, y, 0), alone);
+    }
+}
+
+/// Takes in samples of two values, each at the instant of the other, by their numbers. They are behind what was taken in.
+#[inline(always)]
+fn take_changes(x: Stretch, y: Stretch, numbers: Option<Places>, tally: &mut Tally)
+    requires x { IsPart x }
+    requires first_here { IfSome numbers (λ p. 2 * (1 * p.first) + 1 < length x.bytes.now) }
+    requires last_here { IfSome numbers (λ p. 2 * (1 * p.last) + 1 < length x.bytes.now) }
+    requires first_there { IfSome numbers (λ p. 2 * (1 * p.first) + 1 < length y.bytes.now) }
+    requires last_there { IfSome numbers (λ p. 2 * (1 * p.last) + 1 < length y.bytes.now) }
+    ensures { (test : ℕ → Bool) (n : ℕ) → AreOthers test n numbers →
+        tally.new ≡ joined tally.old (all_changed (counted (map
+        (λ k. change x.entry (1 * k) y.entry (1 * k)) (filter test (range_with_len 0 n))))) }
+{
+    let each = Strides { here: 1, there: 1 };
+    match numbers {
+        Some(places) => {
+            keep_first_change(&mut tally.first, x, places.first, y, places.first);
+            add_changes(&mut tally.changed, x, y, each, numbers);
+        }
+        None => {}
     }
 }
 
 /// Counts the differences of as many samples of two stretches as both have, each of which stands at the instant of the
 /// other's, and answers how many these are.
+#[inline(always)]
 fn count_each(x: Stretch, y: Stretch, tally: &mut Tally) -> (usize, usize)
     requires x { IsPart x }
     requires y { IsPart y }
@@ -196,61 +183,50 @@ fn count_each(x: Stretch, y: Stretch, tally: &mut Tally) -> (usize, usize)
 {
     let count = count_in(x.bytes).min(count_in(y.bytes));
     let numbers = numbers_of::<1>(x.bytes, y.bytes, count);
-    tally.add_changed(changes_at(x, 1, y, 1, numbers));
+    take_changes(x, y, numbers, tally);
     (count, count)
 }
 
-/// The same of as many whole strides as both have, where both have other rates: what lies between two common instants one of
-/// them has alone.
-fn count_strided(x: Stretch, y: Stretch, strides: Strides, tally: &mut Tally) -> (usize, usize)
+/// The same of the whole strides that both have: what lies between two common instants one of them has alone.
+#[inline(always)]
+fn count_strided(x: Stretch, y: Stretch, whole: &WholeStrides, tally: &mut Tally) -> (usize, usize)
     requires x { IsPart x }
     requires y { IsPart y }
-    requires start { x.num *ℤ pos y.den ≡ y.num *ℤ pos x.den }
-    requires strides { AreStrides x y strides }
+    requires whole { AreWholeStrides x y whole.now }
     ensures x_within { 2 * result.0 ≤ length x.entry.bytes.now }
     ensures y_within { 2 * result.1 ≤ length y.entry.bytes.now }
     ensures value { with_rest tally.new x.entry result.0 y.entry result.1 ≡
         with_rest tally.old x.entry 0 y.entry 0 }
 {
-    let count = whole_strides(count_in(x.bytes), count_in(y.bytes), strides);
-    if count == 0 {
-        return (0, 0);
-    }
-    let numbers = numbers_at(x.bytes, y.bytes, strides, count);
-    let changed = changes_at(x, strides.here, y, strides.there, numbers);
-    let missing = alone_between(x, strides.here, count, SampleMismatch::Missing);
-    let extra = alone_between(y, strides.there, count, SampleMismatch::Extra);
-    let kinds = Tally {
-        missing,
-        extra,
-        changed,
-        first: None,
-    };
-    keep_first_apart(x, y, strides, kinds, &mut tally.first);
-    tally.add(kinds);
-    (strides.here * count, strides.there * count)
+    let Strides { here, there } = whole.strides;
+    let numbers = numbers_at(x.bytes, y.bytes, whole.strides, whole.count);
+    keep_first_apart(x, y, whole, &mut tally.first);
+    add_changes(&mut tally.changed, x, y, whole.strides, numbers);
+    tally.missing.add(&whole.missing);
+    tally.extra.add(&whole.extra);
+    (here * whole.count, there * whole.count)
 }
 
-/// Counts the differences at the front of two stretches at once, where both begin at one instant and have one rate, or rates
-/// of which one data record has a whole number of strides. It answers how many samples of each are done with: elsewhere none.
+/// Counts the differences at the front of two stretches at once that meet so, and answers how many samples of each are done with:
+/// none where it isn't known how they meet.
+#[inline(always)]
 pub(crate) fn count_front(
     x: Stretch,
     y: Stretch,
-    held: &mut Option<Ratio>,
+    meeting: &Meeting,
     tally: &mut Tally,
 ) -> (usize, usize)
     requires x { IsPart x }
     requires y { IsPart y }
+    requires meeting { IsMeeting x y meeting.now }
     ensures x_within { 2 * result.0 ≤ length x.entry.bytes.now }
     ensures y_within { 2 * result.1 ≤ length y.entry.bytes.now }
     ensures value { with_rest tally.new x.entry result.0 y.entry result.1 ≡
         with_rest tally.old x.entry 0 y.entry 0 }
 {
-    if is_one_grid(x, y) {
-        return count_each(x, y, tally);
-    }
-    match strides_of(x, y, held) {
-        Some(strides) => count_strided(x, y, strides, tally),
-        None => (0, 0),
+    match meeting {
+        Meeting::Each => count_each(x, y, tally),
+        Meeting::AtStrides(whole) => count_strided(x, y, whole, tally),
+        Meeting::Unknown => (0, 0),
     }
 }

@@ -8,7 +8,8 @@ ghost use Rattle.edf_samples.specs.Differences.{heads};
 ghost use Rattle.edf_samples.specs.Stretches.{IsHead, IsPart, sample_at};
 ghost use Rattle.edf_samples.specs.Tallies.{change};
 
-use crate::counts::front::{alone_at, change_at};
+use crate::counts::alone::alone_at;
+use crate::counts::front::change_at;
 use crate::difference::PointDifference;
 use crate::instants::product;
 use crate::stretch::{Stretch, instant_at};

@@ -5,7 +5,7 @@ ghost use Rattle.edf_samples.specs.Others.{AreOthers, values_differ_at};
 
 use crate::counts::blocks::{numbers_of, with_one};
 use crate::counts::places::Places;
-use crate::counts::ratio::Strides;
+use crate::counts::strides::Strides;
 use edf_stream::value_at;
 
 /// How many whole strides so many samples have. Of the shortest no division is made.
@@ -45,6 +45,7 @@ fn differ_at(old: &[u8], new: &[u8], strides: Strides, number: usize, count: usi
 }
 
 /// The numbers of those of so many values that differ, one by one.
+#[inline(never)]
 fn numbers_by_one(old: &[u8], new: &[u8], strides: Strides, count: usize) -> Option<Places>
     requires some_here { 0 < strides.here }
     requires some_there { 0 < strides.there }
@@ -61,6 +62,7 @@ fn numbers_by_one(old: &[u8], new: &[u8], strides: Strides, count: usize) -> Opt
 
 /// The numbers of those of so many values that differ: the first ones of the strides of two lanes.
 #[tactic(auto, using(crate::proofs::PlaceCountFacts::first_within, crate::proofs::PlaceCountFacts::last_within, crate::proofs::rates::NumberFacts::others_at_half, crate::proofs::rates::NumberFacts::others_at_double))]
+#[inline(always)]
 pub(crate) fn numbers_at(old: &[u8], new: &[u8], strides: Strides, count: usize) -> Option<Places>
     requires some_here { 0 < strides.here }
     requires some_there { 0 < strides.there }

@@ -1,11 +1,33 @@
 //! Samples of a channel at two rates: how many of each lie from one instant that both have to the next.
 
-ghost use Rattle.std.specs.Prelude.{◌≡◌, ◌<◌, ◌*◌, ◌*ℤ◌, ◌<ℤ◌, ◌↔◌, pos, IfSome, IsTrue};
+ghost use Rattle.std.specs.Prelude.{◌≡◌, ◌<◌, ◌*◌, ◌/◌, ◌*ℤ◌, ◌<ℤ◌, ◌↔◌, pos, IfSome, IsTrue};
 ghost use Rattle.edf_samples.specs.Stretches.{IsPart};
-ghost use Rattle.edf_samples.specs.Strides.{AreStrides, IsProportion};
+ghost use Rattle.edf_samples.specs.Strides.{AreStrides, IsCommonDivisor, IsProportion};
 
-use crate::counts::ratio::{Ratio, Strides, ratio_held};
 use crate::stretch::{Stretch, is_same};
+
+/// How many samples of two stretches lie from one instant at which both have one to the next such instant.
+#[derive(Clone, Copy)]
+pub(crate) struct Strides {
+    pub(crate) here: usize,
+    pub(crate) there: usize,
+}
+
+/// The greatest common divisor of two numbers above 0.
+fn common_divisor(a: u64, b: u64) -> u64
+    requires { 0 < a }
+    ensures value { IsCommonDivisor a b result }
+    ensures some { 0 < result }
+{
+    let mut divisor = a;
+    let mut rest = b;
+    while rest != 0 {
+        let next = divisor % rest;
+        divisor = rest;
+        rest = next;
+    }
+    divisor
+}
 
 /// How many times the step of one stretch has that of another, if it has it a whole number of times.
 fn times_in(long: Stretch, short: Stretch) -> Option<u32>
@@ -51,9 +73,20 @@ fn is_twice(number: u64, half: u64) -> bool
     number % 2 == 0 && number / 2 == half
 }
 
+/// How many times a divisor goes into the second of two numbers, and into the first one.
+fn strides_over(a: u64, b: u64, divisor: u64) -> Strides
+    requires { 0 < divisor }
+    ensures here { result.here ≡ b / divisor }
+    ensures there { result.there ≡ a / divisor }
+{
+    let here = (b / divisor) as usize;
+    let there = (a / divisor) as usize;
+    Strides { here, there }
+}
+
 /// How many samples of each stretch lie from one common instant to the next, by the proportion of the distances between them. That
-/// of two rates of which one is twice the other takes no division, and that of any others none where the ratio is held.
-fn strides_by(x: Stretch, y: Stretch, a: u64, b: u64, held: &mut Option<Ratio>) -> Option<Strides>
+/// of two rates of which one is twice the other takes no division.
+fn strides_by(x: Stretch, y: Stretch, a: u64, b: u64) -> Option<Strides>
     requires x { IsPart x }
     requires y { IsPart y }
     requires rises_here { pos 0 <ℤ x.step }
@@ -67,7 +100,8 @@ fn strides_by(x: Stretch, y: Stretch, a: u64, b: u64, held: &mut Option<Ratio>) 
     if is_twice(a, b) {
         return Some(Strides { here: 1, there: 2 });
     }
-    let strides = ratio_held(b, a, held).strides;
+    let divisor = common_divisor(a, b);
+    let strides = strides_over(a, b, divisor);
     if strides.here == strides.there {
         return None;
     }
@@ -75,7 +109,7 @@ fn strides_by(x: Stretch, y: Stretch, a: u64, b: u64, held: &mut Option<Ratio>) 
 }
 
 /// How many samples of each stretch lie from one common instant to the next, where both begin at one and have other rates.
-pub(crate) fn strides_of(x: Stretch, y: Stretch, held: &mut Option<Ratio>) -> Option<Strides>
+pub(crate) fn strides_of(x: Stretch, y: Stretch) -> Option<Strides>
     requires x { IsPart x }
     requires y { IsPart y }
     ensures start { IfSome result (λ strides.
@@ -86,5 +120,5 @@ pub(crate) fn strides_of(x: Stretch, y: Stretch, held: &mut Option<Ratio>) -> Op
         return None;
     }
     let (a, b) = proportion(x, y)?;
-    strides_by(x, y, a, b, held)
+    strides_by(x, y, a, b)
 }

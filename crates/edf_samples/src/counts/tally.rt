@@ -1,7 +1,7 @@
 //! How many samples of a channel differ.
 
 ghost use Rattle.std.specs.Prelude.{◌≡◌, [], ◌∷◌};
-ghost use Rattle.edf_samples.specs.Tallies.{all_changed, all_extra, all_missing, joined, tally_of};
+ghost use Rattle.edf_samples.specs.Tallies.{all_extra, all_missing, joined, tally_of};
 
 use crate::counts::counted::{Counted, keep_first, keep_first_of};
 use crate::difference::PointDifference;
@@ -36,7 +36,7 @@ impl Tally {
     pub(crate) fn add_missing(&mut self, missing: Counted)
         ensures { self.new ≡ joined self.old (all_missing missing) }
     {
-        self.missing.add(missing);
+        self.missing.add(&missing);
         keep_first_of(&mut self.first, missing.first);
     }
 
@@ -46,18 +46,8 @@ impl Tally {
     pub(crate) fn add_extra(&mut self, extra: Counted)
         ensures { self.new ≡ joined self.old (all_extra extra) }
     {
-        self.extra.add(extra);
+        self.extra.add(&extra);
         keep_first_of(&mut self.first, extra.first);
-    }
-
-    /// Takes in samples of two values.
-    #[inline(always)]
-    #[tactic(auto, using(crate::proofs::TallyFacts::changed_joined))]
-    pub(crate) fn add_changed(&mut self, changed: Counted)
-        ensures { self.new ≡ joined self.old (all_changed changed) }
-    {
-        self.changed.add(changed);
-        keep_first_of(&mut self.first, changed.first);
     }
 
     /// Takes in one difference.
@@ -71,17 +61,5 @@ impl Tally {
             SampleMismatch::Extra => self.extra.add_one(difference),
             SampleMismatch::Value(_, _) => self.changed.add_one(difference),
         }
-    }
-
-    /// Takes in the differences behind these.
-    #[inline(always)]
-    #[tactic(auto, unfolding(crate::specs::Tallies::joined))]
-    pub(crate) fn add(&mut self, more: Tally)
-        ensures { self.new ≡ joined self.old more }
-    {
-        self.missing.add(more.missing);
-        self.extra.add(more.extra);
-        self.changed.add(more.changed);
-        keep_first_of(&mut self.first, more.first);
     }
 }

@@ -116,18 +116,22 @@ set_there zero (x ∷ xs) zs v lt = refl
 set_there (suc k) (x ∷ xs) zs v lt = ap (λ ys. x ∷ ys) (set_there k xs zs v (omega (arith, lt)))
 
 -- the differences of a pair were counted
-pub pair_counted : (claim : ClaimValue) (o e : Sampled) (t u : ℤ) (pair : Pair) (here there : Track) (n m : ℕ) (xs ys : List Point) (before after : Tally) → pair.original ≡ Some here → pair.export ≡ Some there
-    → n ≡ here.place.samples → m ≡ there.place.samples
-    → xs ≡ until here.place.samples u (since here.place.samples t (kept_at claim o here.place)) → ys ≡ until there.place.samples u (since there.place.samples t (points_at e there.place))
-    → after ≡ joined before (tally_of (differences_of n xs m ys)) → after ≡ joined before (tally_of (differences_in claim o e t u (places_of pair).0 (places_of pair).1))
+pub pair_counted : (claim : ClaimValue) (o e : Sampled) (t u : ℤ) (p q : ChannelPlace) (n m : ℕ) (xs ys : List Point) (before after : Tally)
+    → n ≡ p.samples → m ≡ q.samples
+    → xs ≡ until p.samples u (since p.samples t (kept_at claim o p)) → ys ≡ until q.samples u (since q.samples t (points_at e q))
+    → after ≡ joined before (tally_of (differences_of n xs m ys)) → after ≡ joined before (tally_of (differences_in claim o e t u (Some p) (Some q)))
 unfolding differences_in
-pair_counted claim o e t u pair here there n m xs ys before after eo ee en em ex ey counted =
+pair_counted claim o e t u p q n m xs ys before after en em ex ey counted =
     let J : List PointDifference → Tally = λ ds. joined before (tally_of ds) in
-    counted ∙ ap (λ k. J (differences_of k xs m ys)) en ∙ ap (λ k. J (differences_of here.place.samples xs k ys)) em
-    ∙ ap (λ zs. J (differences_of here.place.samples zs there.place.samples ys)) ex
-    ∙ ap (λ zs. J (differences_of here.place.samples (until here.place.samples u (since here.place.samples t (kept_at claim o here.place))) there.place.samples zs)) ey
-    ∙ ap (λ x. J (differences_in claim o e t u (option_map (λ (track : Track). track.place) x) (Some there.place))) (sym eo)
-    ∙ ap (λ y. J (differences_in claim o e t u (places_of pair).0 (option_map (λ (track : Track). track.place) y))) (sym ee)
+    counted ∙ ap (λ k. J (differences_of k xs m ys)) en ∙ ap (λ k. J (differences_of p.samples xs k ys)) em
+    ∙ ap (λ zs. J (differences_of p.samples zs q.samples ys)) ex
+    ∙ ap (λ zs. J (differences_of p.samples (until p.samples u (since p.samples t (kept_at claim o p))) q.samples zs)) ey
+
+pub tracks_counted : (claim : ClaimValue) (o e : Sampled) (t u : ℤ) (pair : Pair) (here there : Track) (before after : Tally) → pair.original ≡ Some here → pair.export ≡ Some there
+    → after ≡ joined before (tally_of (differences_in claim o e t u (Some here.place) (Some there.place))) → after ≡ joined before (tally_of (differences_in claim o e t u (places_of pair).0 (places_of pair).1))
+tracks_counted claim o e t u pair here there before after eo ee counted =
+    counted ∙ ap (λ x. joined before (tally_of (differences_in claim o e t u (option_map (λ (track : Track). track.place) x) (Some there.place)))) (sym eo)
+    ∙ ap (λ y. joined before (tally_of (differences_in claim o e t u (places_of pair).0 (option_map (λ (track : Track). track.place) y)))) (sym ee)
 
 pub none_here : (claim : ClaimValue) (o e : Sampled) (t u : ℤ) (pair : Pair) (before : Tally) → pair.original ≡ None → before ≡ joined before (tally_of (differences_in claim o e t u (places_of pair).0 (places_of pair).1))
 unfolding differences_in

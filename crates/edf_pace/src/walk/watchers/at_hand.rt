@@ -1,6 +1,6 @@
 //! The data records at hand of two files that are read in step.
 
-ghost use Rattle.std.specs.Prelude.{◌≡◌, ◌<◌, ◌^◌, unsigned_abs};
+ghost use Rattle.std.specs.Prelude.{◌≡◌, ◌<◌, ◌^◌, ◌≤ℤ◌, IsTrue, false, unsigned_abs};
 ghost use Rattle.edf_samples.specs.InstantOrder.{is_before};
 ghost use Rattle.edf_samples.specs.Stretches.{whole};
 ghost use Rattle.edf_pace.specs.walk.Hands.{AreHandsOf, IsHandOf, number_in, records_at};
@@ -45,6 +45,13 @@ impl Hand {
         }
     }
 
+    /// Whether the data record has begun by a time.
+    fn has_begun_by(self, time: Time) -> bool
+        ensures { IsTrue result → (self.from).ps ≤ℤ time.ps }
+    {
+        self.from.ps <= time.ps
+    }
+
     /// The number of the data record, where an instant isn't before its begin.
     fn number_at(self, at: Instant) -> Option<u32>
         ensures { result ≡ number_in self at }
@@ -73,6 +80,22 @@ impl Hands {
             original: Hand::of(original, clock.original),
             export: Hand::of(export, clock.export),
         }
+    }
+
+    /// Which of them an instant lies in that is before the ends of both, and isn't before a time: where both have begun by then, it
+    /// isn't compared with their begins.
+    #[inline(always)]
+    pub(crate) fn records_since(&self, since: Time, at: Instant) -> RecordsAt
+        requires { is_before at (whole since.ps) ≡ false }
+        ensures { result ≡ records_at self.now at }
+    {
+        if self.original.has_begun_by(since) && self.export.has_begun_by(since) {
+            return RecordsAt {
+                original: self.original.number,
+                export: self.export.number,
+            };
+        }
+        self.records_at(at)
     }
 
     /// Which of them an instant lies in that is before the ends of both.

@@ -1,55 +1,86 @@
 //! The watcher that counts: of each channel how many samples differ, and in which data records the first and the last of each kind lie.
 
-ghost use Rattle.std.specs.Prelude.{◌≡◌, ℤ, [], IfOk, IfSome, false, length, true};
+ghost use Rattle.std.specs.Prelude.{◌≡◌, ℤ, [], IfOk, IfSome, Some, false, length, true};
 ghost use Rattle.edf_claim.specs.KeepsReading.{IsUncut};
 ghost use Rattle.edf_pace.specs.walk.Counting.{AreCounted, IsPairCounted, counts_between};
+ghost use Rattle.edf_pace.specs.walk.Meetings.{AreMet};
 ghost use Rattle.edf_pace.specs.walk.Watching.{TwoFiles};
 ghost use Rattle.edf_pace.specs.walk.Pairs.{ArePairs, IsTrack};
 ghost use Rattle.edf_pace.specs.walk.Windows.{HasShare};
 
 use crate::walk::frame::Frame;
-use crate::walk::shares::{Shares, Sight, keep_shares, no_shares};
-use crate::walk::track::Pair;
+use crate::walk::shares::{Shares, Sight, no_shares};
+use crate::walk::track::{Pair, Track};
 use crate::walk::watchers::at_hand::Hands;
+use crate::walk::watchers::common::{Common, Files, keep_common};
 use crate::walk::watchers::found_in::ChannelCount;
 use crate::walk::watchers::watcher::Watcher;
-use crate::walk::window::{kept_window, shows_the_same, window};
-use edf_samples::{Ratio, Tally, Window, count_differences};
+use crate::walk::window::{kept_window, shown, shows_the_same, window};
+use edf_samples::{Meeting, Tally, Window, count_differences};
 use edf_stream::FileReader;
 use std::alloc::{AllocError, Global};
 
-/// An original and an export that are read.
-#[derive(Clone, Copy)]
-struct Files<'a> {
-    original: &'a FileReader,
-    export: &'a FileReader,
+/// Counts the differences of two channels between two times of which it isn't known yet how they meet. It has a frame of its own, as
+/// what is found out here takes room.
+#[inline(never)]
+fn count_unmet(files: Files<'_>, tracks: (Track, Track), shares: &Shares, tally: &mut Tally)
+    requires original { IsTrack (files.original).now.head tracks.0 }
+    requires export { IsTrack (files.export).now.head tracks.1 }
+    requires original_share { shares.now.is_kept ≡ true →
+        HasShare (files.original).now (Some tracks.0) shares.now.original }
+    requires export_share { HasShare (files.export).now (Some tracks.1) shares.now.export }
+    ensures { IsPairCounted (files.entry.original).now (files.entry.export).now shares.now (record {
+      original = Some tracks.0;
+      export = Some tracks.1;
+    }) tally.old tally.new }
+{
+    let (here, there) = tracks;
+    let x = kept_window(files.original, here, &shares.original, shares.is_kept);
+    let y = window(files.export, there, &shares.export);
+    count_differences(x, y, &Meeting::of(x, y), tally);
 }
 
-/// Counts the differences of the channels of a label between two times; none where one of the files has no such channel. The ratio
-/// of their rates is held for the next two.
-fn count_pair(
-    files: Files<'_>,
-    pair: Pair,
-    shares: &Shares,
-    held: &mut Option<Ratio>,
-    tally: &mut Tally,
-)
-    requires original { IfSome pair.original (IsTrack (files.original).now.head) }
-    requires export { IfSome pair.export (IsTrack (files.export).now.head) }
-    requires original_share { shares.now.is_kept ≡ true →
-        HasShare (files.original).now pair.original shares.now.original }
-    requires export_share { HasShare (files.export).now pair.export shares.now.export }
-    ensures { IsPairCounted (files.entry.original).now (files.entry.export).now shares.now pair
-        tally.old tally.new }
+/// Counts the differences of two channels between two times.
+fn count_tracks(files: Files<'_>, tracks: (Track, Track), common: &Common, tally: &mut Tally)
+    requires original { IsTrack (files.original).now.head tracks.0 }
+    requires export { IsTrack (files.export).now.head tracks.1 }
+    requires original_share { (common.now.shares).is_kept ≡ true →
+        HasShare (files.original).now (Some tracks.0) (common.now.shares).original }
+    requires export_share { HasShare (files.export).now (Some tracks.1) (common.now.shares).export }
+    requires met { IfSome common.now.meeting
+        (AreMet (files.original).now (files.export).now common.now.shares) }
+    ensures { IsPairCounted (files.entry.original).now (files.entry.export).now common.now.shares (record {
+      original = Some tracks.0;
+      export = Some tracks.1;
+    }) tally.old tally.new }
 {
     let Files { original, export } = files;
+    let (here, there) = tracks;
+    let shares = &common.shares;
+    match &common.meeting {
+        Some(meeting) => {
+            let x = shown(original, here, &shares.original);
+            let y = shown(export, there, &shares.export);
+            count_differences(x, y, meeting, tally);
+        }
+        None => count_unmet(files, tracks, shares, tally),
+    }
+}
+
+/// Counts the differences of the channels of a label between two times; none where one of the files has no such channel.
+fn count_pair(files: Files<'_>, pair: Pair, common: &Common, tally: &mut Tally)
+    requires original { IfSome pair.original (IsTrack (files.original).now.head) }
+    requires export { IfSome pair.export (IsTrack (files.export).now.head) }
+    requires original_share { (common.now.shares).is_kept ≡ true →
+        HasShare (files.original).now pair.original (common.now.shares).original }
+    requires export_share { HasShare (files.export).now pair.export (common.now.shares).export }
+    requires met { IfSome common.now.meeting
+        (AreMet (files.original).now (files.export).now common.now.shares) }
+    ensures { IsPairCounted (files.entry.original).now (files.entry.export).now common.now.shares pair
+        tally.old tally.new }
+{
     match (pair.original, pair.export) {
-        (Some(here), Some(there)) => count_differences(
-            kept_window(original, here, &shares.original, shares.is_kept),
-            window(export, there, &shares.export),
-            held,
-            tally,
-        ),
+        (Some(here), Some(there)) => count_tracks(files, (here, there), common, tally),
         (Some(_), None) => {}
         (None, _) => {}
     }
@@ -75,15 +106,17 @@ fn count_window(
     };
     let hands = Hands::of(original, export, sight.clock);
     let files = Files { original, export };
-    let mut shares = no_shares(frame.turn.setting.claim, within);
-    let mut held = None;
+    let mut common = Common {
+        shares: no_shares(frame.turn.setting.claim, within),
+        meeting: None,
+    };
     let mut i = frame.pairs.len();
     while i > 0 {
         i -= 1;
         let pair = frame.pairs[i];
-        keep_shares(original, export, pair, sight, &mut shares);
+        keep_common(files, pair, sight, &mut common);
         let count = &mut counts[i];
-        count_pair(files, pair, &shares, &mut held, &mut count.tally);
+        count_pair(files, pair, &common, &mut count.tally);
         count.note(&hands, within.from);
     }
 }

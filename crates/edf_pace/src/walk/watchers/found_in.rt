@@ -1,7 +1,7 @@
 //! What is counted of a channel, and in which data records the first and the last of each kind lie.
 
 ghost use Rattle.std.specs.Prelude.{◌≡◌, option_map};
-ghost use Rattle.edf_pace.specs.walk.Hands.{counted_on, found_on, is_since, records_at};
+ghost use Rattle.edf_pace.specs.walk.Hands.{counted_on, found_on, records_at};
 ghost use Rattle.edf_pace.specs.walk.Spots.{no_count};
 
 use crate::walk::watchers::at_hand::{Hands, is_before_time};
@@ -32,16 +32,6 @@ fn records_of(hands: &Hands, difference: Option<PointDifference>) -> Option<Reco
     }
 }
 
-/// Whether there is a difference, and it is at a time or later.
-fn is_since(difference: Option<PointDifference>, since: Time) -> bool
-    ensures { result ≡ is_since since.ps difference }
-{
-    match difference {
-        Some(difference) => !is_before_time(difference.at, since),
-        None => false,
-    }
-}
-
 impl FoundIn {
     /// None was found.
     const NONE: FoundIn = FoundIn {
@@ -54,10 +44,13 @@ impl FoundIn {
     fn note(&mut self, counted: &Counted, hands: &Hands, since: Time)
         ensures { self.new ≡ found_on hands.now since.ps self.old counted.now }
     {
-        if !is_since(counted.last, since) {
+        let Some(last) = counted.last else {
+            return;
+        };
+        if is_before_time(last.at, since) {
             return;
         }
-        self.last = records_of(hands, counted.last);
+        self.last = Some(hands.records_since(since, last.at));
         if self.first.is_none() {
             self.first = records_of(hands, counted.first);
         }

@@ -15,6 +15,6 @@ returns g c =
     let whole : width - size + size ≡ width = omega (arith, le, few) in
     let far : c.args.count - width + (width - size) ≡ from = omega (arith, le, few, many) in
     let all : from + size ≡ c.args.count = omega (arith, le) in
-    let fits : size ≤ 64 = ⊎_elim (λ e. omega (arith, le, few, e)) (λ e. omega (arith, le, few, e)) c.requires.width in
+    let fits : size ≤ 64 = ⊎_elim (λ e. omega (arith, le, few, e)) (λ h. ⊎_elim (λ e. omega (arith, le, few, e)) (λ e. omega (arith, le, few, e)) h) c.requires.width in
     subst (λ n. AreOthers test n c.with_others.result) all
     (c.with_others.ensures test size fits (bits_behind test (c.args.count - width) from width (width - size) size c.others_of.result whole far c.others_of.ensures) c.requires.before)

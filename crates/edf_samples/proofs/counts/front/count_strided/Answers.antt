@@ -1,67 +1,53 @@
-use Rattle.std.proofs.Common.{◌≡◌, ◌*◌, ◌<◌, ◌≤◌, ◌∙◌, cond, nat_lt, length, arith, refl, ap, Option, None}
+use Rattle.std.proofs.Common.{◌≡◌, ◌*◌, ◌<◌, ◌∙◌, cond, nat_lt, length, map, filter, arith, refl, ap, Some}
+use Rattle.std.specs.List.{range_with_len}
 use Rattle.std.specs.Option.{option_or}
 use Rattle.edf_samples.specs.declared.counts.places.Places.{Places}
 use Rattle.edf_samples.specs.declared.counts.tally.Tally.{Tally}
-use Rattle.edf_samples.specs.declared.difference.PointDifference.{PointDifference}
 use Rattle.edf_samples.specs.Others.{values_differ_at}
-use Rattle.edf_samples.specs.Tallies.{joined}
+use Rattle.edf_samples.specs.Tallies.{change, counted}
 use Rattle.edf_samples.proofs.rates.NumberFacts.{some_within}
 use Rattle.edf_samples.proofs.rates.StrideFacts.{begins_apart, strided_counted}
 use Rattle.edf_samples.proofs.TallyFacts.{kinds_joined}
 use Rattle.edf_samples.proofs.counts.front.count_strided.Goals as goal
 
-pub changes_at-changed-requires-clause-first_here : goal.changes_at-changed-requires-clause-first_here
-changes_at-changed-requires-clause-first_here c =
-    let within = c.count_in.ensures.within in
-    let here = c.whole_strides-count.ensures.here in
-    some_within c.numbers_at-numbers.result (λ (p : Places). p.first) c.args.strides.here c.whole_strides-count.result (length c.args.x.bytes.now) c.requires.strides.some_here (omega (arith, within, here)) c.numbers_at-numbers.ensures.first
+pub add_changes-requires-clause-first_here : goal.add_changes-requires-clause-first_here
+add_changes-requires-clause-first_here c =
+    let w = c.args.whole.now in
+    some_within c.numbers_at-numbers.result (λ (p : Places). p.first) (w.strides).here w.count (length c.args.x.bytes.now) (c.requires.whole).strides.some_here (c.requires.whole).here c.numbers_at-numbers.ensures.first
 
-pub changes_at-changed-requires-clause-last_here : goal.changes_at-changed-requires-clause-last_here
-changes_at-changed-requires-clause-last_here c =
-    let within = c.count_in.ensures.within in
-    let here = c.whole_strides-count.ensures.here in
-    some_within c.numbers_at-numbers.result (λ (p : Places). p.last) c.args.strides.here c.whole_strides-count.result (length c.args.x.bytes.now) c.requires.strides.some_here (omega (arith, within, here)) c.numbers_at-numbers.ensures.last
+pub add_changes-requires-clause-last_here : goal.add_changes-requires-clause-last_here
+add_changes-requires-clause-last_here c =
+    let w = c.args.whole.now in
+    some_within c.numbers_at-numbers.result (λ (p : Places). p.last) (w.strides).here w.count (length c.args.x.bytes.now) (c.requires.whole).strides.some_here (c.requires.whole).here c.numbers_at-numbers.ensures.last
 
-pub changes_at-changed-requires-clause-first_there : goal.changes_at-changed-requires-clause-first_there
-changes_at-changed-requires-clause-first_there c =
-    let within = c.count_in-2.ensures.within in
-    let there = c.whole_strides-count.ensures.there in
-    some_within c.numbers_at-numbers.result (λ (p : Places). p.first) c.args.strides.there c.whole_strides-count.result (length c.args.y.bytes.now) c.requires.strides.some_there (omega (arith, within, there)) c.numbers_at-numbers.ensures.first
+pub add_changes-requires-clause-first_there : goal.add_changes-requires-clause-first_there
+add_changes-requires-clause-first_there c =
+    let w = c.args.whole.now in
+    some_within c.numbers_at-numbers.result (λ (p : Places). p.first) (w.strides).there w.count (length c.args.y.bytes.now) (c.requires.whole).strides.some_there (c.requires.whole).there c.numbers_at-numbers.ensures.first
 
-pub changes_at-changed-requires-clause-last_there : goal.changes_at-changed-requires-clause-last_there
-changes_at-changed-requires-clause-last_there c =
-    let within = c.count_in-2.ensures.within in
-    let there = c.whole_strides-count.ensures.there in
-    some_within c.numbers_at-numbers.result (λ (p : Places). p.last) c.args.strides.there c.whole_strides-count.result (length c.args.y.bytes.now) c.requires.strides.some_there (omega (arith, within, there)) c.numbers_at-numbers.ensures.last
+pub add_changes-requires-clause-last_there : goal.add_changes-requires-clause-last_there
+add_changes-requires-clause-last_there c =
+    let w = c.args.whole.now in
+    some_within c.numbers_at-numbers.result (λ (p : Places). p.last) (w.strides).there w.count (length c.args.y.bytes.now) (c.requires.whole).strides.some_there (c.requires.whole).there c.numbers_at-numbers.ensures.last
 
 pub returns-clause-value : goal.returns-clause-value
 returns-clause-value c =
     let x = c.args.x in
     let y = c.args.y in
-    let p = c.args.strides.here in
-    let q = c.args.strides.there in
-    let n = c.whole_strides-count.result in
-    let none = c.if-count-eq0.false in
-    let some : 0 < n = omega (arith, none) in
-    let fit-x = c.count_in.ensures.within in
-    let fit-y = c.count_in-2.ensures.within in
-    let here = c.whole_strides-count.ensures.here in
-    let there = c.whole_strides-count.ensures.there in
-    let lx : 2 * (p * n) ≤ length x.bytes.now = omega (arith, fit-x, here) in
-    let ly : 2 * (q * n) ≤ length y.bytes.now = omega (arith, fit-y, there) in
+    let w = c.args.whole.now in
+    let whole = c.requires.whole in
+    let p = (w.strides).here in
+    let q = (w.strides).there in
     let px : 0 < x.den = omega (arith, c.requires.x) in
     let py : 0 < y.den = omega (arith, c.requires.y) in
-    let changed = c.changes_at-changed.result in
-    let missing = c.alone_between-missing.result in
-    let extra = c.alone_between-extra.result in
     let test = values_differ_at p q x.bytes.now y.bytes.now in
+    let changed = counted (map (λ k. change x (p * k) y (q * k)) (filter test (range_with_len 0 w.count))) in
     let a = c.args.tally.now in
-    let made : Option PointDifference → Tally = λ first. record { missing = missing; extra = extra; changed = changed; first = first } in
-    let held : Option PointDifference → Tally = λ first. record { missing = a.missing; extra = a.extra; changed = a.changed; first = first } in
-    let alone = cond (nat_lt q p) missing.first extra.first in
-    let first = cond (test 0) changed.first alone in
+    let alone = cond (nat_lt q p) w.missing.first w.extra.first in
+    let first = cond (test 0) (Some (change x 0 y 0)) alone in
+    let t : Tally = record { missing = w.missing; extra = w.extra; changed = changed; first = first } in
     let kept : c.keep_first_apart.new.first ≡ option_or a.first first =
-    c.keep_first_apart.ensures ∙ ap (λ b. option_or a.first (cond b changed.first alone)) (begins_apart p q x.bytes.now y.bytes.now) in
-    strided_counted a c.add.new.self (made first) changed missing extra x y p q n px py c.requires.start c.requires.strides some lx ly
-    (c.changes_at-changed.ensures test n c.numbers_at-numbers.ensures.value) c.alone_between-missing.ensures c.alone_between-extra.ensures
-    refl (c.add.ensures ∙ ap (λ o. joined (held o) (made None)) kept ∙ kinds_joined a (made None) first)
+    c.keep_first_apart.ensures ∙ ap (λ b. option_or a.first (cond b (Some (change x 0 y 0)) alone)) (begins_apart p q x.bytes.now y.bytes.now) in
+    strided_counted a _ t changed w.missing w.extra x y p q w.count px py whole.start whole.strides whole.some whole.here whole.there
+    refl whole.missing whole.extra refl
+    (kinds_joined a t c.add.new.self c.add-2.new.self c.add_changes.new.changed c.keep_first_apart.new.first c.add.ensures c.add-2.ensures (c.add_changes.ensures test w.count c.numbers_at-numbers.ensures.value) kept)

@@ -1,5 +1,4 @@
-use Rattle.std.proofs.Common.{◌<◌, arith, subst, sym}
-use Rattle.edf_samples.specs.Strides.{IsProportion}
+use Rattle.std.proofs.Common.{◌<◌, arith}
 use Rattle.edf_samples.proofs.rates.StrideFacts.{are_strides, strides_of_double, strides_of_half}
 use Rattle.edf_samples.proofs.counts.strides.strides_by.Goals as goal
 
@@ -7,11 +6,8 @@ pub returns : goal.returns
 returns c =
     let px : 0 < c.args.x.den = omega (arith, c.requires.x) in
     let py : 0 < c.args.y.den = omega (arith, c.requires.y) in
-    let ratio = c.ratio_held.result in
-    let proportion =
-    subst (λ a. IsProportion c.args.x c.args.y a ratio.here) (sym c.ratio_held.ensures.there) (subst (λ b. IsProportion c.args.x c.args.y c.args.a b) (sym c.ratio_held.ensures.here) c.requires.proportion)
-    in
-    are_strides c.args.x c.args.y ratio.there ratio.here ratio.divisor _ _ c.requires.rises_here c.requires.rises_there px py proportion ratio.common ratio.times_here ratio.times_there c.if-strides.false
+    are_strides c.args.x c.args.y c.args.a c.args.b c.common_divisor-divisor.result _ _ c.requires.rises_here c.requires.rises_there px py c.requires.proportion
+    c.common_divisor-divisor.ensures.value c.strides_over-strides.ensures.here c.strides_over-strides.ensures.there c.if-strides.false
 
 pub returns-then-is_twice : goal.returns-then-is_twice
 returns-then-is_twice c =

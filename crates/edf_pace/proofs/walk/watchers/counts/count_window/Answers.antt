@@ -14,8 +14,9 @@ pub loop-i-init : goal.loop-i-init
 loop-i-init c = record {
   within = omega arith;
   each = refl;
-  held = (none_yet c.no_shares-shares.ensures.original, none_yet c.no_shares-shares.ensures.export);
-  kept = c.no_shares-shares.ensures.kept;
+  held = (none_yet c.no_shares.ensures.original, none_yet c.no_shares.ensures.export);
+  met = tt;
+  kept = c.no_shares.ensures.kept;
   value = λ o e ho he. all_left c.of-hands.result (c.args.within.from).ps _ c.args.counts.now _ (sym c.requires.each);
 }
 
@@ -29,13 +30,14 @@ loop-i-preserved c =
     record {
       within = omega (arith, inv.within);
       each = (let l = inv.each in search rules);
-      held = c.keep_shares.ensures.held;
-      kept = c.keep_shares.ensures.kept ∙ inv.kept;
+      held = c.keep_common.ensures.held;
+      met = c.keep_common.ensures.met;
+      kept = c.keep_common.ensures.kept ∙ inv.kept;
       value = λ o e ho he.
           count_step c.of-hands.result (c.args.within.from).ps (λ (pair : Pair). differences_in frame.turn.setting.claim.now (sampled o c.args.original.now.head (moved_original frame.turn)) (sampled e c.args.export.now.head (moved_export frame.turn)) (c.args.within.from).ps (c.args.within.to).ps (places_of pair).0 (places_of pair).1)
           c.args.counts.now c.loop-i.counts frame.pairs.now c.loop-i.i k _ _ c.note.new.self next lt c.requires.each
           (inv.value o e ho he)
-          (note_step c.of-hands.result (c.args.within.from).ps _ _ _ _ (c.count_pair.ensures frame.turn.setting.claim.now frame.turn.setting.clock c.args.within c.keep_shares.ensures.held.0 c.keep_shares.ensures.held.1 c.requires.uncut (c.keep_shares.ensures.kept ∙ inv.kept) o e ho he) c.note.ensures);
+          (note_step c.of-hands.result (c.args.within.from).ps _ _ _ _ (c.count_pair.ensures frame.turn.setting.claim.now frame.turn.setting.clock c.args.within c.keep_common.ensures.held.0 c.keep_common.ensures.held.1 c.requires.uncut (c.keep_common.ensures.kept ∙ inv.kept) o e ho he) c.note.ensures);
     }
 
 pub returns-clause-value : goal.returns-clause-value

@@ -1,6 +1,6 @@
 use Rattle.std.proofs.Common.{arith}
 use Rattle.edf_samples.proofs.rates.StrideFacts.{divisor_above, divisor_end, divisor_step}
-use Rattle.edf_samples.proofs.counts.ratio.common_divisor.Goals as goal
+use Rattle.edf_samples.proofs.counts.strides.common_divisor.Goals as goal
 
 pub loop-rest-preserved : goal.loop-rest-preserved
 loop-rest-preserved c g h = c.loop-rest.invariant g (divisor_step _ _ g h)

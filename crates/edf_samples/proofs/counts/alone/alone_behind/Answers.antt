@@ -1,6 +1,6 @@
 use Rattle.std.proofs.Common.{◌≡◌, ◌+◌, ◌-◌, ◌≤◌, arith}
 use Rattle.edf_samples.proofs.FrontFacts.{rest_counted}
-use Rattle.edf_samples.proofs.counts.front.alone_behind.Goals as goal
+use Rattle.edf_samples.proofs.counts.alone.alone_behind.Goals as goal
 
 pub returns : goal.returns
 returns c =

@@ -1,6 +1,6 @@
 use Rattle.std.proofs.Common.{Fits, rules, w64}
 use Rattle.edf_samples.proofs.FrontFacts.{range_counted}
-use Rattle.edf_samples.proofs.counts.front.alone_among.Goals as goal
+use Rattle.edf_samples.proofs.counts.alone.alone_among.Goals as goal
 
 pub returns : goal.returns
 returns c =
