@@ -29,6 +29,10 @@ OTHER_SECOND = second(third=values([80, 90, 100, 110, 104, 106]), fourth=values(
 ONE_OF_EEG = 'Channel "EEG Fpz-Cz": 1 sample has another value in the export.\n'
 TWO_OF_ECG = 'Channel "ECG": 2 samples have another value in the export.\n'
 OTHER_SENSOR = 'Channel "ECG" has another sensor in the export: the original has "AgAgCl electrode", the export has "x".'
+COMPARED = "  Its header isn't as claimed. Its samples were compared all the same"
+NO_CHANNEL = "  It has no claimed channel that the original has, too"
+SO_CLAIMED = "  They are as claimed.\n"
+NOTES_AS_CLAIMED = "The annotations of all parts together were compared all the same. They are as claimed.\n"
 
 
 def behind(number, words):
@@ -56,14 +60,28 @@ ROWS = [
         "another_header_of_the_first_half_and_values_of_the_second",
         [changed(FIRST, (signal(1, "transducer"), "x")), OTHER_SECOND],
         1,
-        [behind(0, OTHER_SENSOR), behind(1, TWO_OF_ECG)],
+        [behind(0, OTHER_SENSOR), COMPARED, SO_CLAIMED + behind(1, TWO_OF_ECG), NOTES_AS_CLAIMED],
         [AS_CLAIMED],
+    ),
+    (
+        "another_header_and_values_of_the_second_half",
+        [FIRST_WITHOUT_NOTE, changed(OTHER_SECOND, (signal(1, "transducer"), "x"))],
+        1,
+        [behind(0, AS_CLAIMED), behind(1, OTHER_SENSOR), COMPARED, TWO_OF_ECG, "The annotations of all parts together:"],
+        [SO_CLAIMED, NOTES_AS_CLAIMED],
+    ),
+    (
+        "a_first_half_with_other_labels",
+        [changed(FIRST, (signal(0, "label"), "A"), (signal(1, "label"), "B")), SECOND],
+        1,
+        ['The claim names channel "ECG", but the export doesn\'t have it', NO_CHANNEL, behind(1, AS_CLAIMED), NOTES_AS_CLAIMED],
+        [COMPARED, SO_CLAIMED],
     ),
     (
         "other_headers_in_both_halves",
         [changed(FIRST, (signal(1, "transducer"), "x")), changed(SECOND, (signal(1, "transducer"), "x"))],
         1,
-        [behind(0, OTHER_SENSOR), behind(1, OTHER_SENSOR)],
+        [behind(0, OTHER_SENSOR), behind(1, OTHER_SENSOR), SO_CLAIMED + behind(1, OTHER_SENSOR), NOTES_AS_CLAIMED],
         [AS_CLAIMED, "have another value", "has another value"],
     ),
     (

@@ -149,17 +149,17 @@ def edited(*edits, base=NIGHT, **said):
     return bytes_of(recording(edits=[*base["edits"], *edits], base=base, **said))
 
 
-def with_lanes(*lanes, base=NIGHT):
-    """The night with other lanes in its four data records; a short one has zeros behind it."""
+def with_lanes(*lanes, base=NIGHT, edits=()):
+    """The night with other lanes in its four data records, and other texts in some fields; a short lane has zeros behind it."""
     shares = [VALUES_0, VALUES_1, VALUES_2, VALUES_3]
     parts = [part for share, text in zip(shares, lanes) for part in (share, lane(40, text))]
-    return edited(base=base, parts=parts)
+    return edited(*edits, base=base, parts=parts)
 
 
-def with_values(*shares):
-    """The night with other samples in its four data records."""
+def with_values(*shares, edits=()):
+    """The night with other samples in its four data records, and other texts in some fields."""
     lanes = [LANE_0, LANE_1, LANE_2, LANE_3]
-    return edited(parts=[part for share, text in zip(shares, lanes) for part in (values(share), text)])
+    return edited(*edits, parts=[part for share, text in zip(shares, lanes) for part in (values(share), text)])
 
 
 def with_notes(notes):
@@ -206,8 +206,8 @@ QUIET = with_lanes(b"+0\x14\x14\0", b"+1\x14\x14\0", LANE_2, LANE_3)
 HIDING = {which: claim_of(BOTH, f'anonymous = ["{which}"]', ALL) for which in rules.SUBFIELDS}
 NAMELESS = patient("MCH-0234567 F 02-MAY-1951 X")
 LONG = "The patient is awake and asks whether it is time to get up"
-ONE_VALUE = with_values([0, 10, 20, 30, 100, 101], [40, 50, 60, 70, 112, 103], [80, 90, 100, 110, 104, 105],
-                        [120, 130, 140, 150, 106, 107])
+ONE_OTHER = [0, 10, 20, 30, 100, 101], [40, 50, 60, 70, 112, 103], [80, 90, 100, 110, 104, 105], [120, 130, 140, 150, 106, 107]
+ONE_VALUE = with_values(*ONE_OTHER)
 TWO_VALUES = with_values([0, 10, 20, 30, 100, 101], [40, 50, 60, 70, 112, 103], [80, 90, 100, 110, 104, 105],
                          [120, 130, 140, 150, 106, 117])
 THREE_SECONDS = edited((field("records"), "3"), parts=[VALUES_0, LANE_0, VALUES_1, LANE_1, VALUES_2, LANE_2])
@@ -249,7 +249,11 @@ def of_channels():
     yield "a channel that neither has", WHOLE, WHOLE, claim_of('["EEG Fpz-Cz", "Flow"]', "", ALL)
     yield "a channel too many", WHOLE, WHOLE, claim_of('["EEG Fpz-Cz"]', "", ALL)
     yield "a channel too many, and a value", WHOLE, ONE_VALUE, claim_of('["EEG Fpz-Cz"]', "", ALL)
+    yield "no channel of both", WHOLE, flow, claim_of('["Flow"]', "", ALL)
     yield "another sensor", WHOLE, edited((signal(1, "transducer"), "Cup")), EVERYTHING
+    yield "another sensor, and a value", WHOLE, with_values(*ONE_OTHER, edits=[(signal(1, "transducer"), "Cup")]), EVERYTHING
+    yield "another sensor, and an annotation less", WHOLE, with_lanes(b"+0\x14\x14\0", LANE_1, LANE_2, LANE_3, edits=[
+        (signal(1, "transducer"), "Cup")]), EVERYTHING
     yield "a sensor cut short", WHOLE, edited((signal(1, "transducer"), "AgAgCl")), EVERYTHING
     yield "another filter", WHOLE, edited((signal(1, "prefilter"), "None")), EVERYTHING
     yield "another scale", WHOLE, edited((signal(0, "physical-maximum"), "200")), EVERYTHING
@@ -524,6 +528,11 @@ ANSWERED = [
     ("SUBFIELD_HIDDEN", "name hidden, not claimed", ["name", "the patient's name"], "another name"),
     ("DATE_CHANGED", "date hidden, not claimed",
      ["date", "the day of the recording, as the recording's line says it"], "name hidden, not claimed"),
+    ("ALL_COMPARED", "another sensor", [], "one value"),
+    ("ALL_COMPARED", "another sensor, and a value", [], "no channel of both"),
+    ("NOTES_COMPARED", "no channel of both", [], "another sensor"),
+    ("THEY_ARE_AS_CLAIMED", "another sensor", [], "another sensor, and a value"),
+    ("THEY_ARE_AS_CLAIMED", "no channel of both", [], "another sensor, and an annotation less"),
     ("STARTS_EARLIER", "an hour early", ["1 hour", "2002-03-01 21:00:00", "2002-03-01 22:00:00"], "not moved"),
     ("STARTS_LATER", "not moved", ["1 day", "2002-03-02 22:00:00", "2002-03-01 22:00:00"], "an hour early"),
     ("SHIFT_FORGOTTEN", "not moved", [], "moved the other way"),

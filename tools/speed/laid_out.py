@@ -4,14 +4,13 @@
 usage: laid_out.py PROGRAM FOLDER [TURNS]
 
 It writes to FOLDER nights of 8 hours with 22 channels and with two, and one with an annotation in each second; one whose
-annotations stand one in each data record, from the first one on while they last; and nights whose data records are small: 300,000 of 80 bytes, with no annotation
-and with a scored stage in every 30 s, and 2,000,000 of 20 bytes. PROGRAM tests each by `conform` and lays it out by turns, nine
-times where no TURNS are said. A line for each says the medians of the processor's time, and how many times that of the test the
-layout takes.
+annotations stand one in each data record, from the first one on while they last; and nights whose data records are small: 300,000
+of 80 bytes, with no annotation and with a scored stage in every 30 s, and 2,000,000 of 20 bytes. PROGRAM tests each by `conform`
+and lays it out by turns, nine times where no TURNS are said. A line for each says the least of the processor's time, how many times
+that of the test the layout takes, and the same of the medians.
 """
 
 import pathlib
-import statistics
 import sys
 
 sys.dont_write_bytecode = True
@@ -19,7 +18,7 @@ sys.path.insert(0, str(pathlib.Path(__file__).resolve().parent.parent.parent))
 
 from tests import edf  # noqa: E402
 from tests.long_nights import Night, remarks, write  # noqa: E402
-from tools.speed.explained import EIGHT_HOURS, work  # noqa: E402
+from tools.speed.explained import EIGHT_HOURS, by_turns  # noqa: E402
 
 SMALL = 300_000
 SMALLEST = 2_000_000
@@ -49,9 +48,8 @@ def main():
     path = folder / "laid-out.edf"
     for name, night in nights().items():
         write(path, night)
-        runs = [(work(program, "conform", str(path)), work(program, "layout", str(path))) for _ in range(turns)]
-        conform, layout = (statistics.median(column) for column in zip(*runs))
-        print(f"{name}: conform {conform:.3f} s, layout {layout:.3f} s, {layout / conform:.2f} times", flush=True)
+        conform, layout, times, middle = by_turns(turns, (program, "conform", str(path)), (program, "layout", str(path)))
+        print(f"{name}: conform {conform:.3f} s, layout {layout:.3f} s, {times:.2f} times, by medians {middle:.2f}", flush=True)
 
 
 if __name__ == "__main__":

@@ -2,6 +2,7 @@
 
 pub mod annotations;
 pub mod clocks;
+pub mod compared;
 pub mod headers;
 pub mod likeness;
 pub mod samples;

@@ -5,6 +5,7 @@ ghost use Rattle.edf_explain.specs.Appending.{Appended};
 
 use crate::differences::annotations::say_annotations;
 use crate::differences::clocks::Clocks;
+use crate::differences::compared::say_compared;
 use crate::differences::headers::say_heads;
 use crate::differences::samples::say_samples;
 use crate::differences::starts::say_starts;
@@ -51,7 +52,8 @@ struct Both<'a, 'b, 'c, 'd> {
 }
 
 /// Says how the export isn't as claimed. Where the check answers with a Yes with another shift, the samples and annotations that
-/// stand elsewhere aren't listed. Where no other shift was tried, something else is.
+/// stand elsewhere aren't listed. Where the headers differ, it is said that these were compared all the same. Where no other shift was
+/// tried, something else is.
 fn say_differences<R: Recordings>(
     text: &mut Text,
     asked: &Asked<'_, OneExport<'_, R>>,
@@ -63,11 +65,14 @@ fn say_differences<R: Recordings>(
         export: both.claimed.export_header(),
         claim: both.claimed.claim(),
     };
-    say_heads(text, heads)?;
+    let heads_differ = say_heads(text, heads)?;
     say_other_channels(text, asked, heads)?;
     say_starts(text, both.claimed, shifts)?;
     if shifts.has_yes() {
         return Ok(());
+    }
+    if heads_differ {
+        say_compared(text, both.reckoned, both.only)?;
     }
     let clocks = Clocks::of(heads.original, both.reckoned.first());
     let notes = both.reckoned.notes();

@@ -5,6 +5,7 @@ ghost use Rattle.edf_explain.specs.Appending.{Appended};
 
 use crate::differences::annotations::say_annotations;
 use crate::differences::clocks::Clocks;
+use crate::differences::compared::say_part_compared;
 use crate::differences::headers::say_heads;
 use crate::differences::samples::say_samples;
 use crate::differences::starts::{say_shifts_of_parts, say_start_of_part};
@@ -112,13 +113,13 @@ fn say_samples_of_part(
     say_samples(text, heads.claim.channels(), part.channels(), clocks)
 }
 
-/// Says how a part isn't as claimed, or that it is.
+/// Says how a part isn't as claimed, or that it is, and answers whether its header isn't.
 fn say_part(
     text: &mut Text,
     seen: &Findings<'_>,
     number: u16,
     part: &PartFindings,
-) -> Result<(), AllocError> {
+) -> Result<bool, AllocError> {
     let heads = Heads {
         original: seen.original_header(),
         export: part.header(),
@@ -126,26 +127,38 @@ fn say_part(
     };
     say_part_name(text, number)?;
     let said = text.bytes().len();
-    say_heads(text, heads)?;
+    let heads_differ = say_heads(text, heads)?;
     if !part.is_compared() {
-        return Ok(());
+        return Ok(heads_differ);
+    }
+    if heads_differ {
+        say_part_compared(text, part)?;
     }
     say_samples_of_part(text, heads, part)?;
     if text.bytes().len() == said {
         text.say(words::PART_AS_CLAIMED, &[])?;
     }
-    Ok(())
+    Ok(heads_differ)
 }
 
-/// Says how each part isn't as claimed, or that it is. The first one that wasn't compared begins early; answers whether there is
-/// none.
-fn say_each(text: &mut Text, seen: &Findings<'_>) -> Result<bool, AllocError> {
-    say_part(text, seen, 0, seen.first())?;
+/// What was said of all parts.
+#[derive(Clone, Copy)]
+struct SaidOfEach {
+    /// Whether the samples of all were compared.
+    are_compared: bool,
+    /// Whether the header of one of them isn't as claimed.
+    heads_differ: bool,
+}
+
+/// Says how each part isn't as claimed, or that it is. The first one that wasn't compared begins early.
+fn say_each(text: &mut Text, seen: &Findings<'_>) -> Result<SaidOfEach, AllocError> {
+    let mut heads_differ = say_part(text, seen, 0, seen.first())?;
     let mut number: u16 = 0;
     let mut are_compared = true;
     for part in seen.others() {
         number = number.saturating_add(1);
-        say_part(text, seen, number, part)?;
+        let differs = say_part(text, seen, number, part)?;
+        heads_differ = heads_differ || differs;
         if !part.is_compared() {
             let sentence = if are_compared {
                 words::PART_EARLY
@@ -156,12 +169,23 @@ fn say_each(text: &mut Text, seen: &Findings<'_>) -> Result<bool, AllocError> {
             are_compared = false;
         }
     }
-    Ok(are_compared)
+    Ok(SaidOfEach {
+        are_compared,
+        heads_differ,
+    })
 }
 
-/// Says how the annotations of all parts together aren't as claimed.
-fn say_notes(text: &mut Text, seen: &Findings<'_>, only: &OnlyInOne) -> Result<(), AllocError> {
+/// Says how the annotations of all parts together aren't as claimed; or that they are, where a header isn't.
+fn say_notes(
+    text: &mut Text,
+    seen: &Findings<'_>,
+    only: &OnlyInOne,
+    heads_differ: bool,
+) -> Result<(), AllocError> {
     if only.missing.is_empty() && only.extra.is_empty() {
+        if heads_differ {
+            text.say(words::NOTES_OF_ALL_AS_CLAIMED, &[])?;
+        }
         return Ok(());
     }
     text.say(words::NOTES_OF_ALL, &[])?;
@@ -198,10 +222,11 @@ fn say_listed<R: PartsRecordings>(
     shifts: &TriedShifts,
 ) -> Result<(), PartsRunStop> {
     let only = seen.only_in_one(text.alloc())?;
-    if !say_each(text, seen)? {
+    let said = say_each(text, seen)?;
+    if !said.are_compared {
         return Ok(());
     }
-    say_notes(text, seen, &only)?;
+    say_notes(text, seen, &only, said.heads_differ)?;
     if shifts.are_none() {
         say_other_end(text, &parts.asked, seen.claim(), seen.notes(), &only)?;
     }

@@ -1,4 +1,4 @@
--- How the samples of two stretches meet.
+-- How the samples of two stretches meet. These are steps between the definitions and the code.
 use Rattle.std.specs.Prelude.{◌≡◌, true, ◌<◌, ◌≤◌, ◌*◌, pos, ◌*ℤ◌, length, map}
 use Rattle.edf_verdict.specs.declared.verdict.SampleMismatch.TheVariants.{Missing, Extra}
 use Rattle.edf_samples.specs.declared.counts.meeting.Meeting.{Meeting}

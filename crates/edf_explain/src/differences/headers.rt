@@ -223,15 +223,17 @@ impl<'a> Heads<'a> {
     }
 }
 
-/// Says how the header of an export isn't as claimed.
-pub(crate) fn say_heads(text: &mut Text, heads: Heads<'_>) -> Result<(), AllocError> {
+/// Says how the header of an export isn't as claimed, and answers whether it isn't.
+pub(crate) fn say_heads(text: &mut Text, heads: Heads<'_>) -> Result<bool, AllocError> {
     if let Some(exchange) = exchange_of(heads.claim, heads.original, heads.export) {
         text.say(words_of(exchange), &[])?;
     }
     let alloc = text.alloc();
     let channels = BothChannels::of(alloc, heads)?;
-    for difference in head_differences(alloc, heads.original, heads.export, heads.claim)? {
+    let differences = head_differences(alloc, heads.original, heads.export, heads.claim)?;
+    let are_some = !differences.is_empty();
+    for difference in differences {
         heads.say(text, &channels, difference)?;
     }
-    Ok(())
+    Ok(are_some)
 }

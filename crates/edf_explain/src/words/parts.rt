@@ -5,9 +5,18 @@ pub(crate) const PART: &str = "Part {0}:";
 
 pub(crate) const PART_AS_CLAIMED: &str = "  Its header and its samples are as claimed.";
 
+pub(crate) const PART_COMPARED: &str =
+    "  Its header isn't as claimed. Its samples were compared all the same, of each claimed channel that the original has, too.";
+
+pub(crate) const PART_WITHOUT_CHANNELS: &str =
+    "  It has no claimed channel that the original has, too, so none of its samples was compared.";
+
 pub(crate) const PART_EARLY: &str =
     "  It begins before the part in front of it ends, so it isn't known which of the two has the samples there. Its samples weren't compared, nor those of the parts behind it, nor annotations: put the parts in the order of time, or make them so that none overlaps the next.";
 
 pub(crate) const PART_NOT_COMPARED: &str = "  Its samples weren't compared.";
 
 pub(crate) const NOTES_OF_ALL: &str = "The annotations of all parts together:";
+
+pub(crate) const NOTES_OF_ALL_AS_CLAIMED: &str =
+    "The annotations of all parts together were compared all the same. They are as claimed.";

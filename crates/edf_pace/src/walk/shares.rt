@@ -107,7 +107,7 @@ struct Look {
 }
 
 /// Puts the same in the place of `held`, where it is wanted and the channel has another number of samples than the
-/// lanes of that, and answers whether it did. Where there is no such channel, or no data record at hand, what is held stays.
+/// lanes of that; where it answers no, it didn't. Where there is no such channel, or no data record at hand, what is held stays.
 #[inline(always)]
 fn keep_share(
     reader: &FileReader,
@@ -168,7 +168,7 @@ pub(crate) struct Sight {
 }
 
 /// Puts those of a pair in the place of what is held, where its channels have other numbers of samples than the lanes of
-/// that: of the original only where the claim keeps what stands there. It answers whether anything was put there.
+/// that: of the original only where the claim keeps what stands there. Where it answers no, what is held is as it was.
 #[inline(always)]
 pub(crate) fn keep_shares(
     original: &FileReader,

@@ -1,4 +1,4 @@
-//! Values of two files that are compared 64 or 16 at a time: each sample of one with each of the other, or with every second one.
+//! Values of two files that are compared 64, 32 or 16 at a time: each sample of one with each of the other, or with every second one.
 
 ghost use Rattle.std.specs.Prelude.{◌≡◌, ◌≤◌, ◌<◌, ◌^◌, ◌+◌, ◌*◌, ◌-◌, ◌⊎◌, ℕ, Bool, IfSome, length, map, drop};
 ghost use Rattle.std.specs.List.{range_with_len};
@@ -13,8 +13,8 @@ const MANY: usize = 64;
 
 const SOME: usize = 16;
 
-/// How many of the last ones are compared at a time that are half as many or fewer.
-const FEW: usize = 32;
+/// How many are compared at a time where fewer than so many are left behind blocks of `MANY`.
+const HALF: usize = 32;
 
 /// How many bytes are loaded at a time.
 const BLOCK: usize = 32;
@@ -237,8 +237,8 @@ fn numbers_at_once<const STRIDE: usize, const WIDTH: usize>(
         places = with_others(places, number, others);
         number += WIDTH;
     }
-    if WIDTH == MANY && count - number < FEW {
-        return with_last::<STRIDE, FEW>(long, short, number, count, places);
+    if WIDTH == MANY && count - number < HALF {
+        return with_last::<STRIDE, HALF>(long, short, number, count, places);
     }
     with_last::<STRIDE, WIDTH>(long, short, number, count, places)
 }

@@ -13,8 +13,8 @@ use crate::counts::strides::{Strides, strides_of};
 use crate::stretch::{Stretch, count_in, is_one_grid};
 use edf_verdict::SampleMismatch;
 
-/// Whole strides of two stretches, each from one instant at which both have a sample to the next one: how many samples they have, how
-/// many whole strides both stretches have, and the samples between these instants, which one of them has alone.
+/// Whole strides of two stretches, each from one instant at which both have a sample to the next one: how many samples they have, so
+/// many of them as both stretches have, and the samples between these instants, which one of them has alone.
 #[derive(Clone, Copy)]
 pub struct WholeStrides {
     pub(crate) strides: Strides,
@@ -54,7 +54,7 @@ fn at_strides(x: Stretch, y: Stretch, strides: Strides) -> Meeting
     })
 }
 
-/// How two stretches meet.
+/// How two stretches meet. Only speed rests on whether it is known.
 fn meeting_of(x: Stretch, y: Stretch) -> Meeting
     requires x { IsPart x }
     requires y { IsPart y }
@@ -70,7 +70,8 @@ fn meeting_of(x: Stretch, y: Stretch) -> Meeting
 }
 
 impl Meeting {
-    /// How two stretches meet, and so do any others that have as many samples at the same instants.
+    /// How two stretches meet, and so do any others that have as many samples at the same instants, over the same denominators. Only
+    /// speed rests on whether it is known.
     pub fn of(x: Stretch, y: Stretch) -> Meeting
         requires x { IsPart x }
         requires y { IsPart y }

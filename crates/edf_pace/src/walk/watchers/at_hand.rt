@@ -45,7 +45,7 @@ impl Hand {
         }
     }
 
-    /// Whether the data record has begun by a time.
+    /// Whether the data record has begun by a time. Only speed rests on a no.
     fn has_begun_by(self, time: Time) -> bool
         ensures { IsTrue result → (self.from).ps ≤ℤ time.ps }
     {

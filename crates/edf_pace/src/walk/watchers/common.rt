@@ -20,14 +20,14 @@ pub(crate) struct Files<'a> {
 }
 
 /// Which samples stand between two times of the channels with as many samples, and how these meet. How isn't said where one file
-/// shows none of them, or where they aren't kept.
+/// shows none of them or has no such channel, or where they aren't kept.
 #[derive(Clone, Copy)]
 pub(crate) struct Common {
     pub(crate) shares: Shares,
     pub(crate) meeting: Option<Meeting>,
 }
 
-/// Whether both files show what stands in these shares, and a claim keeps it.
+/// Whether both files show what stands in these shares, and a claim keeps it. Only speed rests on a no.
 fn are_shown(files: Files<'_>, shares: &Shares) -> bool
     ensures kept { IsTrue result → shares.now.is_kept ≡ true }
     ensures original { IsTrue result → is_current (files.entry.original).now.status ≡ true }
@@ -55,7 +55,8 @@ fn meeting_in(files: Files<'_>, pair: Pair, shares: &Shares) -> Option<Meeting>
     None
 }
 
-/// Puts what the channels of a pair have in common in the place of what is held, where they have other numbers of samples.
+/// Puts what the channels of a pair have in common in the place of what is held, where they have other numbers of samples, or where it
+/// isn't held how they meet.
 #[inline(always)]
 pub(crate) fn keep_common(files: Files<'_>, pair: Pair, sight: Sight, common: &mut Common)
     requires original { IfSome pair.original (IsTrack (files.original).now.head) }
@@ -74,7 +75,8 @@ pub(crate) fn keep_common(files: Files<'_>, pair: Pair, sight: Sight, common: &m
         (AreMet (files.entry.original).now (files.entry.export).now common.new.shares) }
 {
     let Files { original, export } = files;
-    if keep_shares(original, export, pair, sight, &mut common.shares) {
+    let is_other = keep_shares(original, export, pair, sight, &mut common.shares);
+    if is_other || common.meeting.is_none() {
         common.meeting = meeting_in(files, pair, &common.shares);
     }
 }

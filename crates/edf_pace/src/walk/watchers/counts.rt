@@ -20,7 +20,7 @@ use edf_samples::{Meeting, Tally, Window, count_differences};
 use edf_stream::FileReader;
 use std::alloc::{AllocError, Global};
 
-/// Counts the differences of two channels between two times of which it isn't known yet how they meet. It has a frame of its own, as
+/// Counts the differences of two channels between two times of which it isn't held how they meet. It has a frame of its own, as
 /// what is found out here takes room.
 #[inline(never)]
 fn count_unmet(files: Files<'_>, tracks: (Track, Track), shares: &Shares, tally: &mut Tally)
