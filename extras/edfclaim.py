@@ -1,4 +1,4 @@
-"""Runs edfclaim, and reads its answers: every kind of line that it writes, and nothing else.
+"""Runs edfclaim, and reads its answers: every kind of line that it writes for scripts, and nothing else.
 
     verdict = edfclaim.check("original.edf", "cut.edf", "cut.toml")
     if verdict.yes:

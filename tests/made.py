@@ -11,7 +11,7 @@ import datetime
 
 from tests import edf
 from tests.edf import field, lane, seconds, signal, values
-from tests.recordings import bytes_of, claim_of, recording
+from tests.recordings import COLUMNS, bytes_of, claim_of, recording
 
 START = datetime.datetime(2002, 3, 2, 22, 0, 0)
 PS = 10**12
@@ -24,11 +24,12 @@ LANE = 300
 class Made:
     """A recording: which seconds it has, in stretches, the values of its channels from the original's start on, its
     annotations (onset, duration or none, text), by how many seconds it is moved, the part of a second at which it starts,
-    and the texts of header fields."""
+    the texts of header fields, those of channels by their label and column, and the free text of the header."""
 
     def __init__(self, stretches, channels, notes=(), shift=0, fraction=0, edits=()):
         self.stretches, self.channels, self.notes = list(stretches), dict(channels), sorted(notes, key=str)
         self.shift, self.fraction, self.edits = shift, fraction, list(edits)
+        self.texts, self.free = {}, ""
 
     def but(self, **said):
         """The same, but for what is said."""
@@ -57,6 +58,10 @@ class Made:
         """When it starts, by its own clock."""
         return START + datetime.timedelta(seconds=self.begin() + self.shift)
 
+    def text(self, label, column):
+        """A text of a channel."""
+        return self.texts.get((label, column), COLUMNS[column][KINDS[label][0]])
+
     def samples(self, label):
         """The values by their instants, in picoseconds after the start of the original, and not moved."""
         rate, found = KINDS[label][1], {}
@@ -75,6 +80,14 @@ class Made:
                 number += 1
         return None
 
+    def records(self):
+        """How many data records it has."""
+        return sum(last - first for first, last in self.stretches)
+
+    def record_size(self):
+        """How many bytes a data record has."""
+        return 2 * sum(KINDS[label][1] for label in self.channels) + LANE
+
     def bytes(self):
         """The file."""
         labels = list(self.channels)
@@ -83,10 +96,12 @@ class Made:
         edits = [
             (field("recording"), f"Startdate {edf.dashed(day)} PSG-1234/2002 NN Telemetry03"),
             (field("startdate"), edf.startdate(day)), (field("starttime"), edf.starttime(day)),
-            (field("records"), str(len(places))), (field("reserved"), "EDF+C" if len(self.stretches) == 1 else "EDF+D"),
+            (field("records"), str(len(places))),
+            (field("reserved"), ("EDF+C" if len(self.stretches) == 1 else "EDF+D") + self.free),
             (signal(len(labels), "samples"), str(LANE // 2)),
         ]
         edits += [(signal(number, "samples"), str(KINDS[label][1])) for number, label in enumerate(labels)]
+        edits += [(signal(labels.index(label), column), text) for (label, column), text in self.texts.items() if label in labels]
         left, parts = sorted(self.notes, key=lambda note: note[0]), []
         for number, second in enumerate(places):
             for label in labels:

@@ -4,11 +4,12 @@ usage: python3 -m tests.oracle.honest_parts PROGRAM [COUNT [SEED]]
 
 It makes COUNT nights with a claim and a wrong export as tests/oracle/honesty.py does (2,000 where none is said; SEED is a number,
 1 if none is said, and the same number makes the same files), and cuts the export into one to four parts. PROGRAM runs
-`check-parts` and `explain-parts` on each. What the sentences state is recounted from how the files were made: of each part where
-it starts and is claimed to, and of each of its channels how many samples are missing, too many and changed, the first and the last
-of them; of all parts together how many annotations are missing and too many. What is missing in front of a part counts for it, and
-behind the last part for that one. Each change of the claim that is named is put into the claim, `check-parts` is run again, and its
-line is compared with what was said.
+`check-parts` and `explain-parts` on each. What the sentences state is recounted from how the files were made: of each part which
+rules of its header are broken, and whether its samples were compared all the same; by how much it starts elsewhere, where it starts
+and is claimed to, and of each of its channels how many samples are missing, too many and changed, the first and the last of them,
+and how many of how many are changed where nearly all are; of all parts together which annotations are missing and too many. What is
+missing in front of a part counts for it, and behind the last part for that one. Each change of the claim that is named is put into
+the claim, `check-parts` is run again, and its line is compared with what was said.
 
 What disagrees is said, of twenty exports at the most. The last line counts the exports that passed and failed.
 """
@@ -18,12 +19,17 @@ import re
 import sys
 import tempfile
 
+from tests.explain.sentences import OF_PARTS, sentences
 from tests.made import PS, apart
-from tests.oracle.honesty import Honesty, Said, case, choose, clock, common, wrong_notes, wrong_spot
+from tests.oracle.honesty import (
+    Honesty, Said, case, choose, clock, common, head_lines, lines_of, wrong_head_lines, wrong_nearly_all, wrong_notes, wrong_spot,
+)
 
 PART = re.compile(r"^Part (\d+):$")
-TOGETHER = "The annotations of all parts together:"
-AS_CLAIMED = "  Its header and its samples are as claimed."
+SENTENCES = sentences([OF_PARTS])
+TOGETHER, NOTES_AS_CLAIMED = SENTENCES["NOTES_OF_ALL"], SENTENCES["NOTES_OF_ALL_AS_CLAIMED"]
+AS_CLAIMED = SENTENCES["PART_AS_CLAIMED"]
+COMPARED = [SENTENCES["PART_COMPARED"], SENTENCES["PART_WITHOUT_CHANNELS"]]
 
 
 def in_parts(export):
@@ -51,7 +57,7 @@ class Sections:
     """The sentences of an explanation of several exports: those in front of the first part, of each part, and behind all."""
 
     def __init__(self, text):
-        self.front, self.parts, self.together = [], [], None
+        self.front, self.parts, self.together, self.are_notes_as_claimed = [], [], None, False
         into = self.front
         for line in text.splitlines():
             if found := PART.match(line):
@@ -60,6 +66,8 @@ class Sections:
                 self.parts.append(into)
             elif line == TOGETHER:
                 into = self.together = []
+            elif line == NOTES_AS_CLAIMED:
+                self.are_notes_as_claimed = True
             else:
                 into.append(line)
 
@@ -87,20 +95,35 @@ def wrong_start(said, original, part, claim, span, shift):
     claimed = clock(min(kept), shift)
     exported = clock(part.begin() * PS + part.fraction, part.shift)
     later = (part.begin() + part.shift - shift) * PS + part.fraction - min(kept)
-    want = ("earlier" if later < 0 else "later", exported, claimed) if later else None
+    want = (abs(later), "earlier" if later < 0 else "later", exported, claimed) if later else None
     return None if said.starts == want else f"it starts {want}; said: {said.starts}"
+
+
+def wrong_heads(lines, said, original, part, claim):
+    """What is wrong with what is said of the header of a part, and of its samples, which were compared all the same."""
+    want, compared = list(head_lines(original, part, claim)), []
+    if want:
+        has_channels = bool(common(original, part, claim))
+        compared = [COMPARED[0 if has_channels else 1]]
+        if has_channels and not said.counts:
+            want.append(("THEY_ARE_AS_CLAIMED", []))
+    if [line for line in lines if line in COMPARED] != compared:
+        return f"it lacks {compared}; said: {lines}"
+    return wrong_head_lines(said, lines_of(want))
 
 
 def wrong_part(lines, original, parts, number, claim, shift):
     """What is wrong with what is said of a part, by this shift."""
     part, said = parts[number], Said("\n".join(lines))
-    span = span_of(parts, number, (part.shift - shift) * PS)
-    if wrong := wrong_start(said, original, part, claim, span, shift):
+    span, counts = span_of(parts, number, (part.shift - shift) * PS), []
+    if wrong := wrong_start(said, original, part, claim, span, shift) or wrong_heads(lines, said, original, part, claim):
         return wrong
     for label in common(original, part, claim):
-        for kind, found in apart(original, part, claim, label, shift).items():
-            if kind == "missing":
-                found = [spot for spot in found if span[0] <= spot[0] < span[1]]
+        found_apart = apart(original, part, claim, label, shift)
+        found_apart["missing"] = [spot for spot in found_apart["missing"] if span[0] <= spot[0] < span[1]]
+        kept = [at for at in original.samples(label) if claim.keeps(at) and span[0] <= at < span[1]]
+        counts.append((len(found_apart["changed"]), len(kept) - len(found_apart["missing"])))
+        for kind, found in found_apart.items():
             count, spots = said.counts.pop((label, kind), (0, []))
             if count != len(found):
                 return f"{len(found)} samples of {label} are {kind}; said: {count}"
@@ -108,7 +131,9 @@ def wrong_part(lines, original, parts, number, claim, shift):
             for name, spot, want in zip(names, spots + [None, None], [found[0], found[-1]] if found else []):
                 if wrong := wrong_spot(spot, name, want, shift):
                     return f"{kind} sample of {label}: {wrong}"
-    return f"said of samples that aren't: {said.counts}" if said.counts else None
+    if said.counts:
+        return f"said of samples that aren't: {said.counts}"
+    return wrong_nearly_all(said, counts)
 
 
 class HonestParts(Honesty):
@@ -163,6 +188,9 @@ class HonestParts(Honesty):
                 return f"part {number}: {wrong}"
             if (AS_CLAIMED in lines) and any(line.startswith(("Channel", "The export")) for line in lines):
                 return f"part {number} is as claimed, and {lines}"
+        are_as_claimed = sections.together is None and any(any(head_lines(original, part, claim)) for part in parts)
+        if sections.are_notes_as_claimed != are_as_claimed:
+            return f"are all annotations as claimed behind other headers: {are_as_claimed}; said: {sections.are_notes_as_claimed}"
         return wrong_notes(Said("\n".join(sections.together or [])), original, export, claim, shift)
 
 

@@ -5,11 +5,15 @@ usage: python3 -m tests.oracle.honesty PROGRAM [COUNT [SEED]]
 It makes COUNT nights with a claim and an export that is wrong in one to three ways (2,000 where none is said; SEED is a
 number, 1 if none is said, and the same number makes the same files): moved by another time, cut elsewhere, with other values,
 with channels that stand still, that are lost, or that the claim misspells or leaves out, with annotations that are lost, added,
-moved, said otherwise, or that begin at the end of an interval. PROGRAM runs `check` and `explain` on each. Then what the sentences state is recounted from how the files were made (made.py): where the export starts
-and is claimed to; of each channel how many samples are missing, too many and changed, the first and the last of them, when
-they stand by both clocks, in which data records, and their values; how many annotations are missing and too many. And each
-shift, list of channels and end of an interval that a sentence names is put into the claim, `check` is run again, and its line is compared with what was said: one that
-is said to be better has to be, and one that isn't has not to be.
+moved, said otherwise, or that begin at the end of an interval, with other texts and extremes of channels, with a name that is shown,
+changed or hidden, and with free text; of some, a file is broken off. PROGRAM runs `check` and `explain` on each. Then what the
+sentences state is recounted from how the files were made (made.py): which rules of the headers are broken, with the texts and
+numbers of both files, and whether it is said that samples and annotations were compared all the same; by how much the export starts
+elsewhere, where it starts and is claimed to; of each channel how many samples are missing, too many and changed, the first and the
+last of them, when they stand by both clocks, in which data records, and their values; how many of how many are changed where nearly
+all are; which annotations are missing and too many, and how many aren't listed; in which data record a file breaks off. And each
+shift, list of channels and end of an interval that a sentence names is put into the claim, `check` is run again, and its line is
+compared with what was said: one that is said to be better has to be, and one that isn't has not to be.
 
 What disagrees is said, of twenty exports at the most. The last line counts the exports that passed and failed.
 """
@@ -23,7 +27,8 @@ import subprocess
 import sys
 import tempfile
 
-from tests.edf import seconds
+from tests.edf import field, seconds
+from tests.explain.sentences import filled, sentences
 from tests.made import KINDS, PS, START, Claimed, Made, apart, notes_apart
 
 choose = random.Random()
@@ -52,7 +57,22 @@ NOTES = {
 }
 ONE_WAY = re.compile(r"^All (\d+) annotations that differ (?:are only moved: the export has each of them with its text and its duration, "
                      r"(.*) (later|earlier) than the claim keeps it|(only lack their durations))")
+LISTED = re.compile(rf'^  {AT}, (?:no duration|duration (\S+) s), text "(.*)"$')
+MORE = re.compile(r"^  and (\d+) more$")
+MOST_LISTED = 20
+NEARLY_ALL = re.compile(r"^Nearly all samples have other values in each of the channels, (\d+) of the (\d+) that both files have at the same time: ")
 LENGTH = re.compile(r"(\d+(?:\.\d+)?) (days?|hours?|minutes?|s)\b")
+
+# The sentences on headers, and those on what is compared behind them.
+SENTENCES = sentences()
+OF_HEADS = [
+    "UNKNOWN_CHANNEL", "MISSING_CHANNEL", "CHANNEL_NOWHERE", "EXTRA_CHANNEL", "TRANSDUCER", "PREFILTER", "CALIBRATION",
+    "CALIBRATION_ORIGINAL", "CALIBRATION_EXPORT", "CALIBRATION_DIMENSION", "CALIBRATION_SCALE", "FREE_TEXT_OF_CHANNEL",
+    "FREE_TEXT_OF_HEADER", "SUBFIELD_NOT_X", "SUBFIELD_CHANGED", "SUBFIELD_HIDDEN", "ALL_COMPARED", "NOTES_COMPARED",
+    "THEY_ARE_AS_CLAIMED",
+]
+IS_OF_HEADS = re.compile("|".join(".*".join(re.escape(part) for part in re.split(r"\{\d\}", SENTENCES[name])) for name in OF_HEADS))
+FAULT = re.compile(r"^The (original|export) can't be judged\. Its first fault is: (.*)\.$")
 UNITS = {"day": DAY * PS, "hour": 3600 * PS, "minute": 60 * PS}
 
 
@@ -67,6 +87,11 @@ def length(said):
     """A length of time in picoseconds, by its words."""
     return sum(round(float(number) * PS) if unit == "s" else int(number) * UNITS[unit.rstrip("s")]
                for number, unit in LENGTH.findall(said))
+
+
+def in_order(notes):
+    """Annotations in the order in which they are listed."""
+    return sorted(notes, key=lambda note: (note[0], note[1] is not None, note[1] or 0, note[2].encode()))
 
 
 def begins_behind(line, first):
@@ -98,8 +123,9 @@ def night():
             still = choose.randint(1, count)
             channel[:still] = [channel[0]] * still
         channels[label] = channel
+    most = length // 2 if choose.random() < 0.1 else 5
     notes = [(choose.randrange(length * 4) * PS // 4, choose.choice([None, PS, 30 * PS]), choose.choice(TEXTS))
-             for _ in range(choose.randint(0, 5))]
+             for _ in range(choose.randint(0, most))]
     return Made([(0, length)], channels, notes, 0, choose.choice([0, 0, 0, PS // 2])), length
 
 
@@ -142,8 +168,10 @@ def values_otherwise(export):
 
 def notes_otherwise(export):
     notes = list(export.notes)
-    way = choose.randrange(4)
-    if way == 0 or not notes:
+    way = choose.randrange(5)
+    if way == 4:
+        notes = []
+    elif way == 0 or not notes:
         notes.append((export.begin() * PS + choose.randrange(12) * PS // 4, None, choose.choice(TEXTS)))
     elif way == 1:
         notes.pop(choose.randrange(len(notes)))
@@ -165,6 +193,34 @@ def channels_otherwise(export, claim):
         claim.labels[number] = claim.labels[number][:-1] + "q"
 
 
+def texts_otherwise(export):
+    """Another text or extreme of a channel, or free text of one."""
+    label = choose.choice(sorted(export.channels))
+    column, text = choose.choice([("transducer", "Cup"), ("prefilter", "None"), ("physical-maximum", "123.5"), ("dimension", "nV"),
+                                  ("reserved", "Haagse")])
+    export.texts[label, column] = text
+
+
+def name_otherwise(export, claim):
+    """A name that is another one, that is hidden where the claim doesn't hide it, or shown where it does."""
+    way = choose.randrange(3)
+    if way == 2:
+        claim.anonymous = ["name"]
+    else:
+        export.edits.append((field("patient"), f"MCH-0234567 F 02-MAY-1951 {['Haagse_Mary', 'X'][way]}"))
+
+
+def words_in_header(export):
+    export.free = " Haagse"
+
+
+def lost_bytes(made):
+    """How many bytes a file loses at its end, mostly none."""
+    if choose.random() < 0.97:
+        return 0
+    return choose.randint(1, made.records() * made.record_size())
+
+
 def note_at_end(original, export, claim):
     note = choose.choice(claim.keep)[1] * PS, None, choose.choice(TEXTS)
     for made in (original, export):
@@ -183,7 +239,8 @@ def case():
     export = honest(original, keep, moved)
     export.notes = [note for note in export.notes if note[2] not in claim.remove]
     ways = [lambda: moved_otherwise(export, claim), lambda: cut_otherwise(export, claim, length), lambda: values_otherwise(export),
-            lambda: notes_otherwise(export), lambda: channels_otherwise(export, claim), lambda: note_at_end(original, export, claim)]
+            lambda: notes_otherwise(export), lambda: channels_otherwise(export, claim), lambda: note_at_end(original, export, claim),
+            lambda: texts_otherwise(export), lambda: name_otherwise(export, claim), lambda: words_in_header(export)]
     for way in choose.sample(ways, choose.choice([1, 1, 2, 3])):
         way()
     return original, export, claim
@@ -198,7 +255,9 @@ class Said:
     def __init__(self, text):
         self.lines = text.splitlines()
         self.counts, self.notes, self.named, self.starts, self.tried, self.reckoned = {}, {}, [], None, [], None
-        self.channels, self.ends, self.one_way = [], [], None
+        self.channels, self.ends, self.one_way, self.is_one_way = [], [], None, False
+        self.listed, self.nearly_all, self.faults = {}, None, {}
+        self.heads = collections.Counter(line for line in self.lines if IS_OF_HEADS.fullmatch(line))
         for number, line in enumerate(self.lines):
             for kind, pattern in COUNTS.items():
                 if found := pattern.match(line):
@@ -207,11 +266,16 @@ class Said:
             for kind, pattern in NOTES.items():
                 if found := pattern.match(line):
                     self.notes[kind] = int(found[1])
+                    self.listed[kind] = self.listed_behind(number)
+            if found := NEARLY_ALL.match(line):
+                self.nearly_all = int(found[1]), int(found[2])
+            if found := FAULT.match(line):
+                self.faults[found[1]] = found[2]
             if found := ONE_WAY.match(line):
-                self.notes = {"lacks": int(found[1]), "has": int(found[1])}
+                self.notes, self.is_one_way = {"lacks": int(found[1]), "has": int(found[1])}, True
                 self.one_way = length(found[2]) * (-1 if found[3] == "earlier" else 1) if found[2] else None
             if found := STARTS.match(line):
-                self.starts = found[2], found[3], found[4]
+                self.starts = length(found[1]), found[2], found[3], found[4]
             if found := WITH.match(line):
                 self.named.append((int(found[1]), found[2] or found[3]))
             if found := CHANNELS.match(line):
@@ -222,6 +286,18 @@ class Said:
                 self.tried = [int(part) for part in found[1].split(", ")]
             if found := RECKONED.search(line):
                 self.reckoned = int(found[1])
+
+    def listed_behind(self, number):
+        """The annotations that are listed behind a line, and how many aren't."""
+        notes = []
+        for line in self.lines[number + 1:]:
+            if found := MORE.match(line):
+                return notes, int(found[1])
+            if found := LISTED.match(line):
+                notes.append(found.groups())
+            elif not line.startswith("    "):
+                break
+        return notes, 0
 
     def has_yes(self):
         return any(line.startswith("YES ") for _, line in self.named)
@@ -240,7 +316,7 @@ def wrong_starts(said, original, export, claim):
     claimed = clock(min(kept), claim.shift)
     exported = clock(export.begin() * PS + export.fraction, export.shift)
     later = (export.begin() + export.shift - claim.shift) * PS + export.fraction - min(kept)
-    want = ("earlier" if later < 0 else "later", exported, claimed) if later else None
+    want = (abs(later), "earlier" if later < 0 else "later", exported, claimed) if later else None
     return None if said.starts == want else f"it starts {want}; said: {said.starts}"
 
 
@@ -250,16 +326,89 @@ def wrong_spot(spot, which, want, shift):
     numbers = [None if part is None else str(part) for part in (old_record, new_record)]
     shown = [None, None] if old is None or new is None else [str(old), str(new)]
     have = [which, seconds(at), clock(at), clock(at, shift), *numbers, *shown]
-    # of a sample of the export before what is kept the data record of the original isn't said
-    also = [*have[:4], None, *have[5:]]
-    is_so = spot and (list(spot.groups()) == have or old is None and list(spot.groups()) == also)
-    return None if is_so else f"it is {have}; said: {spot and spot.groups()}"
+    return None if spot and list(spot.groups()) == have else f"it is {have}; said: {spot and spot.groups()}"
+
+
+def wrong_nearly_all(said, counts):
+    """What is wrong with how many samples are changed, of how many that both files have, by what these are of each channel."""
+    changed, compared = (sum(column) for column in zip(*counts)) if counts else (0, 0)
+    are = all(both and both * 99 <= other * 100 for other, both in counts) and compared > 20
+    want = (changed, compared) if are else None
+    return None if said.nearly_all == want else f"of samples that both files have {counts} are changed; said: {said.nearly_all}"
+
+
+def wrong_head_lines(said, want):
+    """What is wrong with the sentences on headers, of which these have to stand there, as often as here."""
+    want = collections.Counter(want)
+    return None if said.heads == want else f"of headers it lacks {want - said.heads}, and says {said.heads - want}"
+
+
+def channel_lines(original, export, label):
+    """What has to be said of a claimed channel that both files have."""
+    def both(column):
+        return original.text(label, column), export.text(label, column)
+
+    for column, name in (("transducer", "TRANSDUCER"), ("prefilter", "PREFILTER")):
+        old, new = both(column)
+        if old != new:
+            yield name, [f'"{label}"', f'"{old}"', f'"{new}"']
+    (_, most), units = both("physical-maximum"), both("dimension")
+    if most != original.text(label, "physical-maximum") or units[0] != units[1]:
+        yield "CALIBRATION", [f'"{label}"']
+        for made, name in ((original, "CALIBRATION_ORIGINAL"), (export, "CALIBRATION_EXPORT")):
+            low, high, unit, least, highest = (made.text(label, column) for column in (
+                "physical-minimum", "physical-maximum", "dimension", "digital-minimum", "digital-maximum"))
+            yield name, [low, high, f'"{unit}"', least, highest]
+        yield ("CALIBRATION_SCALE" if units[0] == units[1] else "CALIBRATION_DIMENSION"), []
+
+
+def head_lines(original, export, claim):
+    """What has to be said of the headers."""
+    for label in claim.labels:
+        if label not in original.channels:
+            yield ("UNKNOWN_CHANNEL" if label in export.channels else "CHANNEL_NOWHERE"), [f'"{label}"']
+        elif label not in export.channels:
+            yield "MISSING_CHANNEL", [f'"{label}"']
+        else:
+            yield from channel_lines(original, export, label)
+        if label in export.channels and (text := export.text(label, "reserved")):
+            yield "FREE_TEXT_OF_CHANNEL", [f'"{label}"', f'"{text}"']
+    for label in export.channels:
+        if label not in claim.labels:
+            yield "EXTRA_CHANNEL", [f'"{label}"']
+    if export.free:
+        yield "FREE_TEXT_OF_HEADER", []
+    name = ["name", "the patient's name"]
+    said = export.edits[-1][1].split()[-1] if export.edits else "Haagse_Harry"
+    if "name" in claim.anonymous and said != "X":
+        yield "SUBFIELD_NOT_X", name
+    elif "name" not in claim.anonymous and said != "Haagse_Harry":
+        yield ("SUBFIELD_HIDDEN" if said == "X" else "SUBFIELD_CHANGED"), name
+
+
+def lines_of(named):
+    """Sentences with what stands in their open places."""
+    return [filled(SENTENCES[name], pieces) for name, pieces in named]
+
+
+def wrong_heads(said, original, export, claim):
+    """What is wrong with what is said of the headers, and of what was compared all the same."""
+    want = list(head_lines(original, export, claim))
+    if want:
+        want.append(("ALL_COMPARED" if common(original, export, claim) else "NOTES_COMPARED", []))
+        if not said.counts and not said.notes:
+            want.append(("THEY_ARE_AS_CLAIMED", []))
+    return wrong_head_lines(said, lines_of(want))
 
 
 def wrong_samples(said, original, export, claim, shift):
     """What is wrong with the samples that are counted, and the first and the last of them."""
+    counts = []
     for label in common(original, export, claim):
-        for kind, found in apart(original, export, claim, label, shift).items():
+        found_apart = apart(original, export, claim, label, shift)
+        kept = [at for at in original.samples(label) if claim.keeps(at)]
+        counts.append((len(found_apart["changed"]), len(kept) - len(found_apart["missing"])))
+        for kind, found in found_apart.items():
             count, spots = said.counts.pop((label, kind), (0, []))
             if count != len(found):
                 return f"{len(found)} samples of {label} are {kind}; said: {count}"
@@ -267,13 +416,29 @@ def wrong_samples(said, original, export, claim, shift):
             for name, spot, want in zip(names, spots + [None, None], [found[0], found[-1]] if found else []):
                 if wrong := wrong_spot(spot, name, want, shift):
                     return f"{kind} sample of {label}: {wrong}"
-    return f"said of samples that aren't: {said.counts}" if said.counts else None
+    if said.counts:
+        return f"said of samples that aren't: {said.counts}"
+    return wrong_nearly_all(said, counts)
+
+
+def wrong_listed(said, kind, found, shift):
+    """What is wrong with the annotations that are listed, and how many aren't."""
+    notes = in_order(found.elements())
+    listed = [(seconds(onset), clock(onset), clock(onset, shift), None if duration is None else seconds(duration), text)
+              for onset, duration, text in notes[:MOST_LISTED]]
+    want = listed, max(len(notes) - MOST_LISTED, 0)
+    given = said.listed.get(kind, ([], 0))
+    return None if given == want else f"of annotations it {kind} {want}; said: {given}"
 
 
 def wrong_notes(said, original, export, claim, shift):
-    """What is wrong with how many annotations are missing and too many."""
+    """What is wrong with the annotations that are missing and too many."""
     missing, extra = notes_apart(original, export, claim, shift)
     want = {kind: found.total() for kind, found in (("lacks", missing), ("has", extra)) if found}
+    if not said.is_one_way:
+        for kind, found in (("lacks", missing), ("has", extra)):
+            if wrong := wrong_listed(said, kind, found, shift):
+                return wrong
     if said.one_way is not None:
         later = collections.Counter((onset + said.one_way, *rest) for onset, *rest in missing.elements())
         if later != extra:
@@ -318,9 +483,20 @@ class Honesty:
                 return f"with {name} the answer is {given}, and {line} without; is it said to be better: {want is not None}"
         return None
 
-    def wrong(self, original, export, claim):
-        """What is wrong with an explanation, or none."""
-        files = self.path("original.edf", original.bytes()), self.path("export.edf", export.bytes())
+    def wrong_fault(self, files, lost, said):
+        """What is wrong with the faults that are said of files that break off, and that nothing else is said."""
+        want = {side: f"Truncated at record {(made.records() * made.record_size() - count) // made.record_size()}"
+                for side, made, count in zip(("original", "export"), files, lost) if count}
+        if said.faults != want:
+            return f"the faults are {want}; said: {said.faults}"
+        is_more = said.counts or said.notes or said.heads or said.starts or said.named or said.channels
+        return f"more than faults is said: {said.lines}" if is_more else None
+
+    def wrong(self, original, export, claim, lost=(0, 0)):
+        """What is wrong with an explanation, or none; the files have lost so many bytes at their ends."""
+        whole = [made.bytes() for made in (original, export)]
+        files = [self.path(name, content[:len(content) - count])
+                 for name, content, count in zip(("original.edf", "export.edf"), whole, lost)]
         text = self.path("claim.toml", claim.text().encode())
         status, line = self.run("check", *files, text)
         if status not in (0, 1):
@@ -330,11 +506,15 @@ class Honesty:
             return f"the explanation has status {ended}; the check: {line}"
         said, line = Said(whole[len(line):]), line.rstrip("\n")
         self.seen[line.split()[0] + line.split()[1] * (status == 1)] += 1
+        if any(lost):
+            return self.wrong_fault((original, export), lost, said)
         self.seen["a shift that makes a Yes"] += said.has_yes()
         self.seen["a shift that is better"] += bool(said.named) and not said.has_yes()
         self.seen["shifts that aren't better"] += bool(said.tried)
         self.seen["other channels"] += bool(said.channels)
         self.seen["another end"] += bool(said.ends)
+        self.seen["nearly all values changed"] += said.nearly_all is not None
+        self.seen["more annotations than are listed"] += any(more for _, more in said.listed.values())
         self.seen["reckoned with another shift"] += said.reckoned not in (None, claim.shift)
         if status == 1 and (wrong := wrong_starts(said, original, export, claim)):
             return wrong
@@ -344,7 +524,8 @@ class Honesty:
         if said.has_yes():
             return f"samples or annotations are listed: {said.counts} {said.notes}" if said.counts or said.notes else None
         shift = claim.shift if said.reckoned is None else said.reckoned
-        return wrong_samples(said, original, export, claim, shift) or wrong_notes(said, original, export, claim, shift)
+        return (wrong_heads(said, original, export, claim) or wrong_samples(said, original, export, claim, shift)
+                or wrong_notes(said, original, export, claim, shift))
 
 
 def main():
@@ -359,7 +540,7 @@ def main():
         honesty = Honesty(os.path.abspath(sys.argv[1]), work)
         for number in range(count):
             made = case()
-            wrong = honesty.wrong(*made)
+            wrong = honesty.wrong(*made, (lost_bytes(made[0]), lost_bytes(made[1])))
             if wrong:
                 failed += 1
                 if failed <= 20:

@@ -6,8 +6,8 @@ It makes COUNT nights, each with an export that was moved by any number of secon
 said; SEED is a number, 1 if none is said, and the same number makes the same files), and PROGRAM drafts the claim of each. A
 draft is told where its first line is that of a Yes with the counts of the claim itself, and the second reading of the rules
 gives that line under the draft, too. A few can't be told (moved_cases.py): they are counted, and have to be fewer than one
-in 100. What fails is a draft whose first line is a Yes that the second reading doesn't give, or isn't one where that gives a
-Yes, and one of another status than 0.
+in 100. What fails is a draft whose first line isn't the second reading's: a Yes, or that it is no Yes, with the line under this
+draft; and one of another status than 0.
 
 What isn't as it should be is said, at most twenty times. The last line counts the exports that passed and failed.
 """
@@ -21,6 +21,7 @@ from tests.oracle import moved_cases, verdict_cases
 from tests.reading import verdict_rules
 
 YES = b"# With this draft the check answers: "
+NO = b"# NOT A YES: with this draft the check answers: "
 
 
 class Drafts:
@@ -49,11 +50,11 @@ class Drafts:
         if status != 0:
             return f"status {status}: {draft[:300]!r}"
         line = verdict_rules.line(original, export, draft)
-        if draft.startswith(YES) != line.startswith("YES "):
+        if not draft.startswith((YES if line.startswith("YES ") else NO) + line.encode() + b"\n"):
             return f"the second reading has {line} under the draft: {draft!r}"
         if not draft.startswith(YES):
             self.untold.append(f"{line}; the claim: {claim.decode()!r}; the draft: {draft.decode()!r}")
-        elif not draft.startswith(YES + line.encode() + b"\n") or line != want:
+        elif line != want:
             return f"wanted {want}, and the second reading has {line}: {draft!r}"
         else:
             self.told += 1

@@ -29,11 +29,16 @@ EIGHT_HOURS = 28800
 OTHER_RATE = 128
 
 
+def places_of(content):
+    """Where the data records of a file begin, and how many bytes each has."""
+    header = 256 * int(content[252:256]) + 256
+    return header, (len(content) - header) // int(content[236:244])
+
+
 def changed(path, other, whole):
     """A copy of a night with other values: one in its middle, or each."""
     content = bytearray(pathlib.Path(path).read_bytes())
-    header = 256 * int(content[252:256]) + 256
-    record = (len(content) - header) // int(content[236:244])
+    header, record = places_of(content)
     lane = 128
     if whole:
         turned = bytes(range(256)).translate(bytes((b + 1) % 256 for b in range(256)))
