@@ -1,7 +1,6 @@
 //! What was compared where the headers aren't as claimed.
 
-use crate::words::compared as words;
-use crate::words::parts as part_words;
+use crate::words::{compared as words, parts as part_words};
 use edf_findings::{Findings, OnlyInOne, PartFindings};
 use edf_sentences::Text;
 use std::alloc::AllocError;
