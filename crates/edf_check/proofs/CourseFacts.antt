@@ -23,7 +23,7 @@ agree-back K L a l t v p = ((a l t v p).1, (a l t v p).0)
 pub agree-alike : (K L E F : Course) → Agree K L → Agree E F → Agree K E → Agree L F
 agree-alike K L E F a b c l t v p = (λ h. (b l t v p).0 ((c l t v p).0 ((a l t v p).1 h)), λ h. (a l t v p).0 ((c l t v p).1 ((b l t v p).1 h)))
 
-differ-alike : (K L E F : Course) → Agree K L → Agree E F → (l : List ℕ) (t : Instant) (m : SampleMismatch) → 0 < t.den → DifferAt K E l t m → DifferAt L F l t m
+pub differ-alike : (K L E F : Course) → Agree K L → Agree E F → (l : List ℕ) (t : Instant) (m : SampleMismatch) → 0 < t.den → DifferAt K E l t m → DifferAt L F l t m
 differ-alike K L E F a b l t Missing p d = ((d.0.0, (a l t d.0.0 p).0 d.0.1), λ w h. d.1 w ((b l t w p).1 h))
 differ-alike K L E F a b l t Extra p d = ((d.0.0, (b l t d.0.0 p).0 d.0.1), λ w h. d.1 w ((a l t w p).1 h))
 differ-alike K L E F a b l t (Value v w) p d = ((a l t v p).0 d.0, (b l t w p).0 d.1, d.2)

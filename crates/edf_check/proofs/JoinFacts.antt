@@ -24,7 +24,7 @@ pub back-of : (u : Instant) (K A B : Course) → IsCutAt u K A B → (l : List �
 back-of u K A B c l t v p b h = ⊎_elim (λ a. absurd (before_not t u (c.front l t v p a).1 b)) (λ d. d) (c.each l t v p h)
 
 -- differences in the fronts
-differ-front : (u : Instant) (K A B E F G : Course) → IsCutAt u K A B → IsCutAt u E F G → (l : List ℕ) (t : Instant) (m : SampleMismatch) → 0 < t.den → DifferAt A F l t m → DifferAt K E l t m × IsBefore t u
+pub differ-front : (u : Instant) (K A B E F G : Course) → IsCutAt u K A B → IsCutAt u E F G → (l : List ℕ) (t : Instant) (m : SampleMismatch) → 0 < t.den → DifferAt A F l t m → DifferAt K E l t m × IsBefore t u
 differ-front u K A B E F G c d l t Missing p h =
     let a = c.front l t h.0.0 p h.0.1 in
     (((h.0.0, a.0), λ w e. h.1 w (front-of u E F G d l t w p a.1 e)), a.1)
@@ -35,13 +35,13 @@ differ-front u K A B E F G c d l t (Value v w) p h =
     let a = c.front l t v p h.0 in
     ((a.0, (d.front l t w p h.1).0, h.2), a.1)
 
-front-differ : (u : Instant) (K A B E F G : Course) → IsCutAt u K A B → IsCutAt u E F G → (l : List ℕ) (t : Instant) (m : SampleMismatch) → 0 < t.den → IsBefore t u → DifferAt K E l t m → DifferAt A F l t m
+pub front-differ : (u : Instant) (K A B E F G : Course) → IsCutAt u K A B → IsCutAt u E F G → (l : List ℕ) (t : Instant) (m : SampleMismatch) → 0 < t.den → IsBefore t u → DifferAt K E l t m → DifferAt A F l t m
 front-differ u K A B E F G c d l t Missing p b h = ((h.0.0, front-of u K A B c l t h.0.0 p b h.0.1), λ w f. h.1 w (d.front l t w p f).0)
 front-differ u K A B E F G c d l t Extra p b h = ((h.0.0, front-of u E F G d l t h.0.0 p b h.0.1), λ v a. h.1 v (c.front l t v p a).0)
 front-differ u K A B E F G c d l t (Value v w) p b h = (front-of u K A B c l t v p b h.0, front-of u E F G d l t w p b h.1, h.2)
 
 -- differences in the backs
-differ-back : (u : Instant) (K A B E F G : Course) → IsCutAt u K A B → IsCutAt u E F G → (l : List ℕ) (t : Instant) (m : SampleMismatch) → 0 < t.den → DifferAt B G l t m → DifferAt K E l t m × IsNotBefore t u
+pub differ-back : (u : Instant) (K A B E F G : Course) → IsCutAt u K A B → IsCutAt u E F G → (l : List ℕ) (t : Instant) (m : SampleMismatch) → 0 < t.den → DifferAt B G l t m → DifferAt K E l t m × IsNotBefore t u
 differ-back u K A B E F G c d l t Missing p h =
     let a = c.back l t h.0.0 p h.0.1 in
     (((h.0.0, a.0), λ w e. h.1 w (back-of u E F G d l t w p a.1 e)), a.1)
@@ -52,7 +52,7 @@ differ-back u K A B E F G c d l t (Value v w) p h =
     let a = c.back l t v p h.0 in
     ((a.0, (d.back l t w p h.1).0, h.2), a.1)
 
-back-differ : (u : Instant) (K A B E F G : Course) → IsCutAt u K A B → IsCutAt u E F G → (l : List ℕ) (t : Instant) (m : SampleMismatch) → 0 < t.den → IsNotBefore t u → DifferAt K E l t m → DifferAt B G l t m
+pub back-differ : (u : Instant) (K A B E F G : Course) → IsCutAt u K A B → IsCutAt u E F G → (l : List ℕ) (t : Instant) (m : SampleMismatch) → 0 < t.den → IsNotBefore t u → DifferAt K E l t m → DifferAt B G l t m
 back-differ u K A B E F G c d l t Missing p b h = ((h.0.0, back-of u K A B c l t h.0.0 p b h.0.1), λ w f. h.1 w (d.back l t w p f).0)
 back-differ u K A B E F G c d l t Extra p b h = ((h.0.0, back-of u E F G d l t h.0.0 p b h.0.1), λ v a. h.1 v (c.back l t v p a).0)
 back-differ u K A B E F G c d l t (Value v w) p b h = (back-of u K A B c l t v p b h.0, back-of u E F G d l t w p b h.1, h.2)

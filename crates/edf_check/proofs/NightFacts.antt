@@ -203,7 +203,7 @@ record HasPlaces (o e : Sampled) (label : List ℕ) : Type 0 where
   original : channel_at label o.head ≡ Some s
   export : channel_at label e.head ≡ Some t
 
-place-there : (h : Head) (label : List ℕ) → HasChannel h label → (place : ChannelPlace) × (channel_at label h ≡ Some place)
+pub place-there : (h : Head) (label : List ℕ) → HasChannel h label → (place : ChannelPlace) × (channel_at label h ≡ Some place)
 place-there h label (x, is) = cases (channel_at label h) refl
   where
     ordinary : not (is_annotations x.label) ≡ true
@@ -270,15 +270,15 @@ exported-list original export claim o e c a =
     ∙ ap (λ xs. points_of (is_of c) (neg_ℤ (origin_of original +ℤ shift_ps claim)) xs) a.export_samples
 
 -- the column of a claimed label, with its places
-record IsColumnOf (original export : List ℕ) (claim : ClaimValue) (c : Column) : Type 0 where
-  s : ChannelPlace
-  t : ChannelPlace
-  original_place : channel_at c.label (head_of original) ≡ Some s
-  export_place : channel_at c.label (head_of export) ≡ Some t
-  n_is : c.n ≡ s.samples
-  kept_is : c.kept ≡ points_of (is_kept claim s.number (neg_ℤ (origin_of original))) (neg_ℤ (origin_of original)) (samples_of original (head_of original))
-  m_is : c.m ≡ t.samples
-  exported_is : c.exported ≡ points_of (is_of t.number) (neg_ℤ (origin_of original +ℤ shift_ps claim)) (samples_of export (head_of export))
+pub record IsColumnOf (original export : List ℕ) (claim : ClaimValue) (c : Column) : Type 0 where
+  pub s : ChannelPlace
+  pub t : ChannelPlace
+  pub original_place : channel_at c.label (head_of original) ≡ Some s
+  pub export_place : channel_at c.label (head_of export) ≡ Some t
+  pub n_is : c.n ≡ s.samples
+  pub kept_is : c.kept ≡ points_of (is_kept claim s.number (neg_ℤ (origin_of original))) (neg_ℤ (origin_of original)) (samples_of original (head_of original))
+  pub m_is : c.m ≡ t.samples
+  pub exported_is : c.exported ≡ points_of (is_of t.number) (neg_ℤ (origin_of original +ℤ shift_ps claim)) (samples_of export (head_of export))
 
 column-is : (original export : List ℕ) (claim : ClaimValue) (o e : Sampled) (label : List ℕ) → AreNights original export claim o e → Has claim.channels label → IsColumnOf original export claim (column_of claim o e label)
 column-is original export claim o e label a i =
@@ -305,7 +305,7 @@ among original export claim o e labels c a l i =
     let named : m.0 ≡ c.label = ap label_of m.2 in
     (subst (Has claim.channels) named claimed, ap (column_of claim o e) (sym named) ∙ m.2, subst (IsColumnOf original export claim) m.2 (column-is original export claim o e m.0 a claimed))
 
-is-column : (original export : List ℕ) (claim : ClaimValue) (c : Column) → Conforms original (head_of original) → Conforms export (head_of export) → IsColumnOf original export claim c → IsColumn c
+pub is-column : (original export : List ℕ) (claim : ClaimValue) (c : Column) → Conforms original (head_of original) → Conforms export (head_of export) → IsColumnOf original export claim c → IsColumn c
 is-column original export claim c co ce is =
     let s = is.s in
     let t = is.t in
@@ -326,7 +326,7 @@ is-column original export claim c co ce is =
     }
 
 -- what a column keeps is kept
-kept-there : (original export : List ℕ) (claim : ClaimValue) (c : Column) (at : Instant) (v : ℤ) → Conforms original (head_of original) → IsColumnOf original export claim c → Has claim.channels c.label → 0 < at.den
+pub kept-there : (original export : List ℕ) (claim : ClaimValue) (c : Column) (at : Instant) (v : ℤ) → Conforms original (head_of original) → IsColumnOf original export claim c → Has claim.channels c.label → 0 < at.den
     → HasValue c.n c.kept at v → KeptAt original claim c.label at v
 kept-there original export claim c at v co is claimed p h =
     let s = is.s in
@@ -338,7 +338,7 @@ kept-there original export claim c at v co is claimed p h =
     let kept = kept-instant claim s.number ps r.x r.passes in
     (claimed, keeps-same claim (later ps (r.x).instant) at px p r.same kept, sampled-value original (origin_of original) c.label test at v co r)
 
-there-kept : (original export : List ℕ) (claim : ClaimValue) (c : Column) (at : Instant) (v : ℤ) → Conforms original (head_of original) → IsColumnOf original export claim c → 0 < at.den
+pub there-kept : (original export : List ℕ) (claim : ClaimValue) (c : Column) (at : Instant) (v : ℤ) → Conforms original (head_of original) → IsColumnOf original export claim c → 0 < at.den
     → KeptAt original claim c.label at v → HasValue c.n c.kept at v
 there-kept original export claim c at v co is p (claimed, kept, value) =
     let s = is.s in
@@ -356,7 +356,7 @@ there-kept original export claim c at v co is p (claimed, kept, value) =
     let found = sampled-column original h c.label s test ps at v is.original_place (sound-head original co) (kept-of claim s.number ps) r in
     subst (λ n. HasValue n c.kept at v) (sym is.n_is) (subst (λ xs. HasValue s.samples xs at v) (sym is.kept_is) found)
 
-exported-there : (original export : List ℕ) (claim : ClaimValue) (c : Column) (at : Instant) (v : ℤ) → Conforms export (head_of export) → IsColumnOf original export claim c
+pub exported-there : (original export : List ℕ) (claim : ClaimValue) (c : Column) (at : Instant) (v : ℤ) → Conforms export (head_of export) → IsColumnOf original export claim c
     → HasValue c.m c.exported at v → ExportedAt original export claim c.label at v
 exported-there original export claim c at v ce is h =
     let t = is.t in
@@ -365,7 +365,7 @@ exported-there original export claim c at v ce is h =
     let r = column-sampled export (head_of export) c.label t (is_of t.number) (neg_ℤ d) at v is.export_place (λ x i. i) found in
     sampled-value export d c.label (is_of t.number) at v ce r
 
-there-exported : (original export : List ℕ) (claim : ClaimValue) (c : Column) (at : Instant) (v : ℤ) → Conforms export (head_of export) → IsColumnOf original export claim c
+pub there-exported : (original export : List ℕ) (claim : ClaimValue) (c : Column) (at : Instant) (v : ℤ) → Conforms export (head_of export) → IsColumnOf original export claim c
     → ExportedAt original export claim c.label at v → HasValue c.m c.exported at v
 there-exported original export claim c at v ce is value =
     let t = is.t in

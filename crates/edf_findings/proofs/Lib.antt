@@ -5,3 +5,5 @@ pub mod LabelFacts
 pub mod NoneFacts
 pub mod SeenFacts
 pub mod OneWayFacts
+pub mod CountedFacts
+pub mod ForCallers

@@ -133,7 +133,7 @@ listed-by h g k l ls true e = rw e refl
 listed-by h g k l ls false e = rw e refl
 
 -- the place of a claimed label that both files have is among those that are told
-place-told : (h g : Head) (k : ℕ) (labels : List (List ℕ)) (i : ℕ) (label : List ℕ) → slice_get labels i ≡ Some label → is_in_both h g label ≡ true → Has (places_from h g k labels) (k + i)
+pub place-told : (h g : Head) (k : ℕ) (labels : List (List ℕ)) (i : ℕ) (label : List ℕ) → slice_get labels i ≡ Some label → is_in_both h g label ≡ true → Has (places_from h g k labels) (k + i)
 place-told h g k [] i label at both = absurd (let z : None ≡ Some label = at in cc)
 place-told h g k (l ∷ ls) zero label at both =
     let is : l ≡ label = cc in

@@ -1,10 +1,12 @@
 -- What is told of samples that were counted: of each claimed channel that both files have, of each export.
-use Rattle.std.specs.Prelude.{◌≡◌, ◌==◌, ℕ, ℤ, pos, ◌*ℤ◌, ◌+◌, Bool, ◌&&◌, if◌then◌else◌, List, [], ◌∷◌, ◌++◌, map, slice_get, Option, Some, None, is_some}
+use Rattle.std.specs.Prelude.{◌≡◌, ◌==◌, ℕ, ℤ, pos, ◌*◌, ◌*ℤ◌, ◌+◌, ◌-◌, Bool, ◌&&◌, not, if◌then◌else◌, List, [], ◌∷◌, ◌++◌, map, slice_get, Option, Some, None, is_some}
 use Rattle.std.specs.Borrow.{Bor}
 use Rattle.std.specs.Int.{int_div_euclid, saturate_signed, w128}
+use Rattle.std.specs.Ordering.{int_eq}
 use Rattle.edf_fields.specs.Lists.{Has}
 use Rattle.edf_header.specs.Heads.{Head}
 use Rattle.edf_heads.specs.Comparisons.{IsPlaceOf}
+use Rattle.edf_pace.specs.declared.walk.channel_place.ChannelPlace.{ChannelPlace}
 use Rattle.edf_pace.specs.declared.walk.watchers.found_in.ChannelCount.{ChannelCount}
 use Rattle.edf_pace.specs.declared.walk.watchers.found_in.FoundIn.{FoundIn}
 use Rattle.edf_pace.specs.declared.walk.watchers.found_in.RecordsAt.{RecordsAt}
@@ -61,13 +63,21 @@ pub record Seen : Type 0 where
   pub export : Head
   pub counts : List ChannelCount
 
--- the channel tells what was counted of this label, where the counts stand in the order of these labels
+-- the channel tells what was counted of this label, where the counts stand in the order of these labels; by the places of its channels in both files,
+-- whether its samples stand at other distances in the export; and how many samples of the export aren't extra ones: both files have those
+-- at the same instants
 pub record IsToldAt (labels : List (Bor (List ℕ))) (seen : Seen) (label : List ℕ) (channel : ComparedChannel) : Type 0 where
   pub at : ℕ
   pub label_is : IsPlaceOf labels label at
   pub count : ChannelCount
   pub count_is : slice_get seen.counts at ≡ Some count
   pub told : IsTold count channel
+  pub here : ChannelPlace
+  pub here_is : channel_at label seen.original ≡ Some here
+  pub there : ChannelPlace
+  pub there_is : channel_at label seen.export ≡ Some there
+  pub rate : channel.has_other_rate ≡ not (int_eq (samples_last (seen.original).duration there.samples) (samples_last (seen.export).duration here.samples))
+  pub compared : channel.compared ≡ (seen.export).records * there.samples - ((count.tally).extra).count
 
 -- it tells that of the label with its place in a claim
 abbrev pub IsToldOf : List (List ℕ) → List (Bor (List ℕ)) → Seen → ComparedChannel → Type 0

@@ -11,7 +11,7 @@ pub use Rattle.edf_pace.proofs.walk.LockstepFacts.{are_places, fault_after, faul
 pub use Rattle.edf_pace.proofs.walk.OnwardFacts.{begin_is, ends_behind, matched_behind, matched_end, matched_on, other_way, past_all}
 pub use Rattle.edf_pace.proofs.walk.PassFacts.{at_first, at_later, begins_with_one, there_next}
 pub use Rattle.edf_pace.proofs.walk.PlaceFacts.{at-found, at-there, channel-bounds, channels-distinct, one-number}
-pub use Rattle.edf_pace.proofs.walk.RecordFacts.{before-past-all, from-first}
-pub use Rattle.edf_pace.proofs.walk.SpanFacts.{claim_within, span_is_whole, within-from, within-keeps, within-until}
+pub use Rattle.edf_pace.proofs.walk.RecordFacts.{before-past-all, from-first, points-are-kept}
+pub use Rattle.edf_pace.proofs.walk.SpanFacts.{claim_within, rest-kept, span_is_whole, until-all, window-kept, within-from, within-keeps, within-until}
 unfoldable pub use Rattle.edf_pace.proofs.walk.SplitFacts.{ArePlaces}
 unfoldable pub use Rattle.edf_pace.proofs.walk.SpanFacts.{whole_difference}

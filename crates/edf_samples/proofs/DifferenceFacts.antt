@@ -82,10 +82,10 @@ difference_cases n x xs m y ys Q first second same differs =
     (λ g. differs s (λ v. false≢true (sym g ∙ (Decides-int_eq x.value y.value).1 v)))))
 
 -- each member of the list is after t
-abbrev After : ℕ → List Point → Instant → Type 0
+abbrev pub After : ℕ → List Point → Instant → Type 0
 After n xs t = (x : Point) → Has xs x → IsBefore t (instant n x)
 
-rest_after : (n : ℕ) (x : Point) (xs : List Point) → 0 < n → IsAscending (x ∷ xs) → After n xs (instant n x)
+pub rest_after : (n : ℕ) (x : Point) (xs : List Point) → 0 < n → IsAscending (x ∷ xs) → After n xs (instant n x)
 rest_after n x xs pn a y h = before_over x.num y.num n pn (a.0 y h)
 
 -- the head and the rest, from the rest
@@ -96,14 +96,14 @@ pub head_above : (n : ℕ) (x : Point) (xs : List Point) → 0 < n → IsAscendi
 head_above n x xs pn a = with_head n x xs (instant n x) (self_above (instant n x)) (λ y h. before_below (instant n x) (instant n y) (rest_after n x xs pn a y h))
 
 -- what is before the head is before all
-after_head : (n : ℕ) (x : Point) (xs : List Point) (t : Instant) → 0 < n → IsAscending (x ∷ xs) → IsBefore t (instant n x) → After n (x ∷ xs) t
+pub after_head : (n : ℕ) (x : Point) (xs : List Point) (t : Instant) → 0 < n → IsAscending (x ∷ xs) → IsBefore t (instant n x) → After n (x ∷ xs) t
 after_head n x xs t pn a b y h = before-not_before t (instant n x) (instant n y) pn b (head_above n x xs pn a y h)
 
 after-above : (n : ℕ) (xs : List Point) (t : Instant) → After n xs t → AreFrom n xs t
 after-above n xs t a y h = before_below t (instant n y) (a y h)
 
 -- nothing stands at t where all is after t
-none_at : (n : ℕ) (xs : List Point) (t : Instant) → After n xs t → HasNone n xs t
+pub none_at : (n : ℕ) (xs : List Point) (t : Instant) → After n xs t → HasNone n xs t
 none_at n xs t a x h s = before_same_back t (instant n x) (a x h) s
 
 -- a value at t is not before s where the list is not
@@ -120,35 +120,35 @@ differ_above n xs m ys t s (Value v w) pn pm ax ay d b = value_above n xs t s v 
 least_here : (n : ℕ) (xs : List Point) (m : ℕ) (ys : List Point) (d : PointDifference) → 0 < n → 0 < m → IsDifference n xs m ys d → AreFrom n xs d.at → AreFrom m ys d.at → IsLeastDifference n xs m ys d
 least_here n xs m ys d pn pm i ax ay = (i, λ e j b. differ_above n xs m ys e.at d.at e.mismatch pn pm ax ay j.1 b)
 
-weaker_value : (n : ℕ) (x : Point) (xs : List Point) (t : Instant) (v : ℤ) → HasValue n xs t v → HasValue n (x ∷ xs) t v
+pub weaker_value : (n : ℕ) (x : Point) (xs : List Point) (t : Instant) (v : ℤ) → HasValue n xs t v → HasValue n (x ∷ xs) t v
 weaker_value n x xs t v h = (h.0, inr h.1, h.2, h.3)
 
 -- nothing stands at t in a list whose head is before t
-none_with_head : (n : ℕ) (x : Point) (xs : List Point) (t : Instant) → IsBefore (instant n x) t → HasNone n xs t → HasNone n (x ∷ xs) t
+pub none_with_head : (n : ℕ) (x : Point) (xs : List Point) (t : Instant) → IsBefore (instant n x) t → HasNone n xs t → HasNone n (x ∷ xs) t
 none_with_head n x xs t b none y i s =
     ⊎_elim (λ e. let P : Point → Type 0 = λ z. IsBefore (instant n z) t in before_same (instant n y) t (subst P e b) s) (λ j. none y j s) i
 
-none_rest : (n : ℕ) (x : Point) (xs : List Point) (t : Instant) → HasNone n (x ∷ xs) t → HasNone n xs t
+pub none_rest : (n : ℕ) (x : Point) (xs : List Point) (t : Instant) → HasNone n (x ∷ xs) t → HasNone n xs t
 none_rest n x xs t none y h s = none y (inr h) s
 
 -- a value of the rest stands after the head
 value_after : (n : ℕ) (xs : List Point) (t s : Instant) (v : ℤ) → 0 < s.den → 0 < t.den → After n xs s → HasValue n xs t v → IsBefore s t
 value_after n xs t s v ps pt a h = before-not_before s (instant n h.0) t pt (a h.0 h.1) (same_below (instant n h.0) t h.2)
 
-differ_after : (n : ℕ) (xs : List Point) (m : ℕ) (ys : List Point) (t s : Instant) (k : SampleMismatch) → 0 < s.den → 0 < t.den → After n xs s → After m ys s → Differ n xs m ys t k → IsBefore s t
+pub differ_after : (n : ℕ) (xs : List Point) (m : ℕ) (ys : List Point) (t s : Instant) (k : SampleMismatch) → 0 < s.den → 0 < t.den → After n xs s → After m ys s → Differ n xs m ys t k → IsBefore s t
 differ_after n xs m ys t s Missing ps pt ax ay d = value_after n xs t s d.0.0 ps pt ax d.0.1
 differ_after n xs m ys t s Extra ps pt ax ay d = value_after m ys t s d.0.0 ps pt ay d.0.1
 differ_after n xs m ys t s (Value v w) ps pt ax ay d = value_after n xs t s v ps pt ax d.0
 
 -- a difference of the rests is one of the wholes, where the heads are the same
-whole_differ : (n : ℕ) (x : Point) (xs : List Point) (m : ℕ) (y : Point) (ys : List Point) (t : Instant) (k : SampleMismatch) →
+pub whole_differ : (n : ℕ) (x : Point) (xs : List Point) (m : ℕ) (y : Point) (ys : List Point) (t : Instant) (k : SampleMismatch) →
     IsBefore (instant n x) t → IsBefore (instant m y) t → Differ n xs m ys t k → Differ n (x ∷ xs) m (y ∷ ys) t k
 whole_differ n x xs m y ys t Missing bx by' d = ((d.0.0, weaker_value n x xs t d.0.0 d.0.1), none_with_head m y ys t by' d.1)
 whole_differ n x xs m y ys t Extra bx by' d = ((d.0.0, weaker_value m y ys t d.0.0 d.0.1), none_with_head n x xs t bx d.1)
 whole_differ n x xs m y ys t (Value v w) bx by' d = (weaker_value n x xs t v d.0, weaker_value m y ys t w d.1, d.2)
 
 -- a value of the whole is the head's, or one of the rest
-value_cases : {P : Type 0} (n : ℕ) (x : Point) (xs : List Point) (t : Instant) (v : ℤ) → HasValue n (x ∷ xs) t v → (IsSame (instant n x) t → x.value ≡ v → P) → (HasValue n xs t v → P) → P
+pub value_cases : {P : Type 0} (n : ℕ) (x : Point) (xs : List Point) (t : Instant) (v : ℤ) → HasValue n (x ∷ xs) t v → (IsSame (instant n x) t → x.value ≡ v → P) → (HasValue n xs t v → P) → P
 value_cases n x xs t v h here rest =
     ⊎_elim
     (λ e. let Q : Point → Type 0 = λ z. IsSame (instant n z) t in
@@ -156,12 +156,12 @@ value_cases n x xs t v h here rest =
     (λ j. rest (h.0, j, h.2, h.3)) h.1
 
 -- where the heads are the same, a value of the one rest can't stand at the other's head
-apart : {P : Type 0} (n : ℕ) (xs : List Point) (s t : Instant) (v : ℤ) → 0 < n → 0 < t.den → After n xs s → IsSame s t → HasValue n xs t v → P
+pub apart : {P : Type 0} (n : ℕ) (xs : List Point) (s t : Instant) (v : ℤ) → 0 < n → 0 < t.den → After n xs s → IsSame s t → HasValue n xs t v → P
 apart n xs s t v pn pt a e h =
     absurd (before_same s t (before-not_before s (instant n h.0) t pt (a h.0 h.1) (same_below (instant n h.0) t h.2)) e)
 
 -- a difference of the wholes is one of the rests, where the heads are the same and of one value
-rest_differ : (n : ℕ) (x : Point) (xs : List Point) (m : ℕ) (y : Point) (ys : List Point) (t : Instant) (k : SampleMismatch) → 0 < n → 0 < m → 0 < t.den →
+pub rest_differ : (n : ℕ) (x : Point) (xs : List Point) (m : ℕ) (y : Point) (ys : List Point) (t : Instant) (k : SampleMismatch) → 0 < n → 0 < m → 0 < t.den →
     After n xs (instant n x) → After m ys (instant m y) → IsSame (instant n x) (instant m y) → x.value ≡ y.value →
     Differ n (x ∷ xs) m (y ∷ ys) t k → Differ n xs m ys t k
 rest_differ n x xs m y ys t Missing pn pm pt ax ay s e d =

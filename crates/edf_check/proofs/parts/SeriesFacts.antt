@@ -104,11 +104,11 @@ value-before file d u label at v p c end value =
 -- ---- what is kept of a span
 
 -- what the claim keeps from t on
-abbrev KeptFrom : List ℕ → ClaimValue → ℤ → Course
+abbrev pub KeptFrom : List ℕ → ClaimValue → ℤ → Course
 KeptFrom original claim t = KeptAt original (claim_within true t t claim)
 
 -- and before u
-abbrev KeptUntil : List ℕ → ClaimValue → ℤ → ℤ → Course
+abbrev pub KeptUntil : List ℕ → ClaimValue → ℤ → ℤ → Course
 KeptUntil original claim t u = KeptAt original (claim_within false t u claim)
 
 as-test : (claim : ClaimValue) (t : Instant) (label : List ℕ) (v : ℤ) (original : List ℕ) → KeptAt original claim label t v → keeps_instant claim t.num t.den ≡ true
@@ -118,7 +118,7 @@ as-test claim t label v original h = h.1
 kept-so : (original : List ℕ) (c d : ClaimValue) (label : List ℕ) (t : Instant) (v : ℤ) → d.channels ≡ c.channels → keeps_instant d t.num t.den ≡ true → KeptAt original c label t v → KeptAt original d label t v
 kept-so original c d label t v same keeps h = (subst (λ (ls : List (List ℕ)). Has ls label) (sym same) h.0, keeps, h.2)
 
-kept-cut : (original : List ℕ) (claim : ClaimValue) (t u : ℤ) → t ≤ℤ u → IsCutAt (whole u) (KeptFrom original claim t) (KeptUntil original claim t u) (KeptFrom original claim u)
+pub kept-cut : (original : List ℕ) (claim : ClaimValue) (t u : ℤ) → t ≤ℤ u → IsCutAt (whole u) (KeptFrom original claim t) (KeptUntil original claim t u) (KeptFrom original claim u)
 kept-cut original claim t u l = record {
   front = λ label at v p h.
       let test = as-test (claim_within false t u claim) at label v original h in

@@ -157,7 +157,7 @@ passes-from n t x h = ap not (false-is_before (instant n x) (whole t) (omega (ar
 from-passes : (n : ℕ) (t : ℤ) (x : Point) → not_before n t x ≡ true → (t *ℤ pos n) ≤ℤ x.num
 from-passes n t x h = let b = is_before-false (instant n x) (whole t) (not-true (is_before (instant n x) (whole t)) h) in omega (arith, ints, b)
 
-rest-kept : (claim : ClaimValue) (n : ℕ) (t u : ℤ) (xs : List Point) → since n t (filter (keeps_point claim n) xs) ≡ filter (keeps_point (claim_within true t u claim) n) xs
+pub rest-kept : (claim : ClaimValue) (n : ℕ) (t u : ℤ) (xs : List Point) → since n t (filter (keeps_point claim n) xs) ≡ filter (keeps_point (claim_within true t u claim) n) xs
 rest-kept claim n t u xs =
     let K = keeps_point claim n in
     let L = keeps_point (claim_within true t u claim) n in
@@ -169,7 +169,7 @@ rest-kept claim n t u xs =
     ∙ filter_implied L A (filter K xs) (λ x h. passes-from n t x (within-from true claim t u x.num n h))
     ∙ filter_implied L K xs (λ x h. sym (within-keeps true claim t u x.num n (within-from true claim t u x.num n h) (none x)) ∙ h)
 
-window-kept : (claim : ClaimValue) (n : ℕ) (t u : ℤ) (xs : List Point) → until n u (since n t (filter (keeps_point claim n) xs)) ≡ filter (keeps_point (claim_within false t u claim) n) xs
+pub window-kept : (claim : ClaimValue) (n : ℕ) (t u : ℤ) (xs : List Point) → until n u (since n t (filter (keeps_point claim n) xs)) ≡ filter (keeps_point (claim_within false t u claim) n) xs
 window-kept claim n t u xs =
     let K = keeps_point claim n in
     let L = keeps_point (claim_within false t u claim) n in
@@ -184,7 +184,7 @@ window-kept claim n t u xs =
     ∙ filter_implied L A (filter K xs) (λ x h. passes-from n t x (within-from false claim t u x.num n h))
     ∙ filter_implied L K xs (λ x h. sym (within-keeps false claim t u x.num n (within-from false claim t u x.num n h) (λ z. within-until claim t u x.num n h)) ∙ h)
 
-until-all : (n : ℕ) (t : ℤ) (xs : List Point) → AreBefore n xs (whole t) → until n t xs ≡ xs
+pub until-all : (n : ℕ) (t : ℤ) (xs : List Point) → AreBefore n xs (whole t) → until n t xs ≡ xs
 until-all n t xs h = filter_all (λ x. is_before (instant n x) (whole t)) xs (λ x i. true-is_before (instant n x) (whole t) (h x i))
 
 -- ---- one channel

@@ -1,0 +1,4 @@
+pub mod ListedFacts
+pub mod ChannelFacts
+pub mod ToldFacts
+pub mod FirstFacts

@@ -1,0 +1,5 @@
+use Rattle.edf_all_told.proofs.ToldFacts.{all_is_told_of_several}
+use Rattle.edf_all_told.proofs.laws.all_differences_of_samples_are_told_of_several_exports.Goals as goal
+
+pub returns : goal.returns
+returns c = all_is_told_of_several
