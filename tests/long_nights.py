@@ -90,5 +90,15 @@ def write(path, night):
             file.write(b"".join([values[at:at + size] for at in places]) + edf.lane(night.lane, text))
 
 
+def other_values(path, other, night):
+    """Writes a copy of a night in which each sample has another value."""
+    turned = bytes(range(256)).translate(bytes((b + 1) % 256 for b in range(256)))
+    samples = 2 * night.channels * (night.rate * night.tenths // 10)
+    with open(path, "rb") as one, open(other, "wb") as two:
+        two.write(one.read(edf.header_size(night.channels + 1)))
+        while record := one.read(samples + night.lane):
+            two.write(record[:samples].translate(turned) + record[samples:])
+
+
 if __name__ == "__main__":
     write(sys.argv[1], Night(int(sys.argv[2]), rate=int(sys.argv[3])))

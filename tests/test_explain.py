@@ -9,13 +9,17 @@ The rows of tests/explain have words that have to stand in the sentences, and wo
 said of one check of tests/explain/sentences.py, and not of another.
 """
 
+import dataclasses
+import os
 import random
+import sys
 
 from tests import faults, night
 from tests.cases import claim_texts, rows_of
 from tests.cases.small_night import BOTH
 from tests.explain import mistakes, rows, sentences, tries
-from tests.harness import ANSWERS, NIGHT, ProgramCase, each, slug
+from tests.harness import ANSWERS, NIGHT, TOP, ProgramCase, each, run, slug
+from tests.long_nights import Night, other_values, write
 from tests.recordings import claim_of
 
 # How many checks of a table are tried.
@@ -201,3 +205,37 @@ class Checks(ExplainCase):
     @each(some_checks())
     def check(self, row):
         self.assert_explained(self.paths(*row.made()))
+
+
+class Memory(ProgramCase):
+    """How much memory an explanation holds, beside the check of the same files."""
+
+    # How much more it may be, in units of 1024 bytes: what is counted of 22 channels, and the sentences.
+    MORE = 512
+    LENGTHS = 300, 3000
+
+    @classmethod
+    def setUpClass(cls):
+        super().setUpClass()
+        cls.claims = {}
+        for seconds in cls.LENGTHS:
+            night = Night(seconds)
+            files = {"original": night, "half": dataclasses.replace(night, rate=85), "twice": dataclasses.replace(night, rate=340)}
+            for name, made in files.items():
+                write(cls.room / f"{name}-{seconds}.edf", made)
+            other_values(cls.room / f"original-{seconds}.edf", cls.room / f"changed-{seconds}.edf", night)
+            labels = ", ".join(f'"{label}"' for label in night.labels())
+            cls.claims[seconds] = cls.file(f"{seconds}.toml", f'format = 1\nchannels = [{labels}]\nkeep = [{{ from = "0", to = "{seconds}" }}]\n')
+
+    def held(self, command, name, seconds):
+        """How much memory a command holds at the most, which answers No."""
+        files = self.room / f"original-{seconds}.edf", self.room / f"{name}-{seconds}.edf", self.claims[seconds]
+        here = {**os.environ, "PYTHONPATH": str(TOP)}
+        ran = run(sys.executable, "-B", "-m", "tests.held", self.room / "held", self.program, command, *files, cwd=NIGHT, env=here)
+        self.assertEqual(ran.status, 1, f"{ran}\nwanted: status 1")
+        return int((self.room / "held").read_text(encoding="utf-8"))
+
+    @each((f"{name}_in_{seconds}_s", name, seconds) for name in ("changed", "half", "twice") for seconds in (300, 3000))
+    def beside_the_check(self, name, seconds):
+        check, explanation = self.held("check", name, seconds), self.held("explain", name, seconds)
+        self.assertLess(explanation, check + self.MORE, f"so many KB are held, and {check} by the check")

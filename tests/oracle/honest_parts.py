@@ -57,11 +57,11 @@ class Sections:
     """The sentences of an explanation of several exports: those in front of the first part, of each part, and behind all."""
 
     def __init__(self, text):
-        self.front, self.parts, self.together, self.are_notes_as_claimed = [], [], None, False
+        self.front, self.parts, self.together, self.are_notes_as_claimed, self.numbers = [], [], None, False, []
         into = self.front
         for line in text.splitlines():
             if found := PART.match(line):
-                assert int(found[1]) == len(self.parts), text
+                self.numbers.append(int(found[1]))
                 into = []
                 self.parts.append(into)
             elif line == TOGETHER:
@@ -73,7 +73,7 @@ class Sections:
 
     def tried(self):
         """What is said of what was tried."""
-        return Said("\n".join(self.front + (self.together or []) + self.parts[-1]))
+        return Said("\n".join(self.front + (self.together or []) + (self.parts[-1] if self.parts else [])))
 
 
 def span_of(parts, number, moved):
@@ -162,6 +162,8 @@ class HonestParts(Honesty):
         self.seen[line.split()[0] + line.split()[1] * (status == 1)] += 1
         self.seen[f"{len(parts)} parts"] += 1
         said = sections.tried()
+        if said.odd or sections.numbers != list(range(len(sections.parts))):
+            return f"said in no known form, or twice, or parts without their numbers: {said.odd} {sections.numbers}"
         # with a shift that makes a Yes it is said where the first part starts, and nothing else
         if len(sections.parts) != (1 if said.has_yes() else len(parts)):
             return f"{len(parts)} parts; said: {len(sections.parts)}"
@@ -186,8 +188,10 @@ class HonestParts(Honesty):
         for number, lines in enumerate(sections.parts):
             if wrong := wrong_part(lines, original, parts, number, claim, shift):
                 return f"part {number}: {wrong}"
-            if (AS_CLAIMED in lines) and any(line.startswith(("Channel", "The export")) for line in lines):
-                return f"part {number} is as claimed, and {lines}"
+            of_part = Said("\n".join(lines))
+            is_as_claimed = not any(head_lines(original, parts[number], claim)) and not of_part.counts and of_part.starts is None
+            if of_part.odd or (AS_CLAIMED in lines) != is_as_claimed:
+                return f"is part {number} as claimed: {is_as_claimed}; said, and what is odd: {lines} {of_part.odd}"
         are_as_claimed = sections.together is None and any(any(head_lines(original, part, claim)) for part in parts)
         if sections.are_notes_as_claimed != are_as_claimed:
             return f"are all annotations as claimed behind other headers: {are_as_claimed}; said: {sections.are_notes_as_claimed}"

@@ -50,6 +50,8 @@ CHANNELS = re.compile(r'^With channels = \["(.*)"\] (?:the answer would be (YES 
 END = re.compile(r'^With to = "(\d+)\.0{11}1" in place of "(\d+)" (?:the answer would be (YES .*)\. Export again'
                  r"|the first difference would be (NO .*)\.$)")
 TRIED = re.compile(r"^Other shifts were tried, and with none of them the first samples are as claimed: ([-0-9, ]*)\.")
+CHANGES = "With shift", "With channels", "With to", "Other shifts"
+TRIES = WITH, CHANNELS, END, TRIED
 RECKONED = re.compile(r"What follows is worked out with shift = (-?\d+)")
 NOTES = {
     "lacks": re.compile(r"^The export lacks (\d+) annotations? that the claim keeps:$"),
@@ -257,11 +259,14 @@ class Said:
         self.counts, self.notes, self.named, self.starts, self.tried, self.reckoned = {}, {}, [], None, [], None
         self.channels, self.ends, self.one_way, self.is_one_way = [], [], None, False
         self.listed, self.nearly_all, self.faults = {}, None, {}
+        # what is said in no known form, or twice
+        self.odd = [line for line in self.lines if line.startswith(CHANGES) and not any(pattern.match(line) for pattern in TRIES)]
         self.heads = collections.Counter(line for line in self.lines if IS_OF_HEADS.fullmatch(line))
         for number, line in enumerate(self.lines):
             for kind, pattern in COUNTS.items():
                 if found := pattern.match(line):
                     spots = [SPOT.match(spot) for spot in self.lines[number + 1:number + 3]]
+                    self.odd += [line] if (found[1], kind) in self.counts else []
                     self.counts[found[1], kind] = int(found[2]), [spot for spot in spots if spot]
             for kind, pattern in NOTES.items():
                 if found := pattern.match(line):
@@ -489,7 +494,8 @@ class Honesty:
                 for side, made, count in zip(("original", "export"), files, lost) if count}
         if said.faults != want:
             return f"the faults are {want}; said: {said.faults}"
-        is_more = said.counts or said.notes or said.heads or said.starts or said.named or said.channels
+        is_more = (said.counts or said.notes or said.heads or said.starts or said.named or said.channels or said.ends or said.tried
+                   or said.nearly_all or said.is_one_way or said.odd)
         return f"more than faults is said: {said.lines}" if is_more else None
 
     def wrong(self, original, export, claim, lost=(0, 0)):
@@ -508,6 +514,8 @@ class Honesty:
         self.seen[line.split()[0] + line.split()[1] * (status == 1)] += 1
         if any(lost):
             return self.wrong_fault((original, export), lost, said)
+        if said.odd:
+            return f"said in no known form, or twice: {said.odd}"
         self.seen["a shift that makes a Yes"] += said.has_yes()
         self.seen["a shift that is better"] += bool(said.named) and not said.has_yes()
         self.seen["shifts that aren't better"] += bool(said.tried)

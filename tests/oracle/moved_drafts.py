@@ -50,7 +50,9 @@ class Drafts:
         if status != 0:
             return f"status {status}: {draft[:300]!r}"
         line = verdict_rules.line(original, export, draft)
-        if not draft.startswith((YES if line.startswith("YES ") else NO) + line.encode() + b"\n"):
+        # a text in the line has a letter for each of its bytes
+        said = line.encode("latin-1")
+        if not draft.startswith((YES + said + b"\n",) if line.startswith("YES ") else (NO + said + b".\n", NO + said + b". If ")):
             return f"the second reading has {line} under the draft: {draft!r}"
         if not draft.startswith(YES):
             self.untold.append(f"{line}; the claim: {claim.decode()!r}; the draft: {draft.decode()!r}")

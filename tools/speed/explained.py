@@ -22,7 +22,7 @@ import sys
 sys.dont_write_bytecode = True
 sys.path.insert(0, str(pathlib.Path(__file__).resolve().parent.parent.parent))
 
-from tests.long_nights import Night, write  # noqa: E402
+from tests.long_nights import Night, other_values, write  # noqa: E402
 
 EIGHT_HOURS = 28800
 # beside the 170 samples a second of a night: both have a sample at the same instant twice a second
@@ -35,18 +35,11 @@ def places_of(content):
     return header, (len(content) - header) // int(content[236:244])
 
 
-def changed(path, other, whole):
-    """A copy of a night with other values: one in its middle, or each."""
+def one_other(path, other):
+    """A copy of a night with another value in its middle."""
     content = bytearray(pathlib.Path(path).read_bytes())
     header, record = places_of(content)
-    lane = 128
-    if whole:
-        turned = bytes(range(256)).translate(bytes((b + 1) % 256 for b in range(256)))
-        for start in range(header, len(content), record):
-            content[start : start + record - lane] = content[start : start + record - lane].translate(turned)
-    else:
-        middle = header + record * ((len(content) - header) // record // 2)
-        content[middle] ^= 1
+    content[header + record * ((len(content) - header) // record // 2)] ^= 1
     pathlib.Path(other).write_bytes(content)
 
 
@@ -79,9 +72,9 @@ def main():
     for name, rate in rates.items():
         exports[name] = folder / f"rate-{rate}.edf"
         write(exports[name], dataclasses.replace(night, rate=rate))
-    for name, whole in (("one other value", False), ("all other values", True)):
-        exports[name] = folder / f"changed-{whole}.edf"
-        changed(path, exports[name], whole)
+    exports["one other value"], exports["all other values"] = folder / "one-other.edf", folder / "all-other.edf"
+    one_other(path, exports["one other value"])
+    other_values(path, exports["all other values"], night)
     claim = folder / "claim.toml"
     labels = ", ".join(f'"{label}"' for label in night.labels())
     claim.write_text(f'format = 1\nchannels = [{labels}]\n[[keep]]\nfrom = "0"\nto = "999999999"\n', encoding="utf-8")
