@@ -2,3 +2,4 @@ pub mod ListedFacts
 pub mod ChannelFacts
 pub mod ToldFacts
 pub mod FirstFacts
+pub mod NoteFacts

@@ -1,7 +1,14 @@
 //! Laws of the definitions, each the contract of a function that does nothing. The files conform, and a claim is one that can be
 //! read.
 
-ghost use Rattle.edf_all_told.specs.Laws.{AllIsTold, AllIsToldOfSeveral, FirstIsTold, FirstIsToldOfSeveral};
+ghost use Rattle.edf_all_told.specs.Laws.{
+  AllIsTold,
+  AllIsToldOfSeveral,
+  FirstIsTold,
+  FirstIsToldOfSeveral,
+  FirstNoteIsTold,
+  FirstNoteIsToldOfSeveral,
+};
 
 /// Of each claimed channel that an original and its export both have, and of no other, what is found tells all instants at which
 /// what is kept of the original and the export differ, and no others: of each kind how many they are, as far as a counter goes,
@@ -21,4 +28,11 @@ pub fn all_differences_of_samples_are_told_of_several_exports()
 pub fn a_verdict_on_samples_is_told_first()
     ensures one { FirstIsTold }
     ensures several { FirstIsToldOfSeveral }
+{}
+
+/// Where the verdict is a difference of annotations, the one that it names is the first of its kind that
+/// `Notes::only_in_one` finds.
+pub fn a_verdict_on_annotations_is_told_first()
+    ensures one { FirstNoteIsTold }
+    ensures several { FirstNoteIsToldOfSeveral }
 {}

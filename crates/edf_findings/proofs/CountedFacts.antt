@@ -1,8 +1,9 @@
 -- What is found of exports, by what was counted of them.
-use Rattle.std.proofs.Common.{◌≡◌, ◌+ℤ◌, ℕ, neg_ℤ, Bor, List, [], ◌∷◌, length, map, MatchOption, Option, option_map, subst}
-use Rattle.edf_check.specs.KeptReading.{origin_of}
+use Rattle.std.proofs.Common.{◌≡◌, ◌+ℤ◌, ℕ, neg_ℤ, Bor, List, [], ◌∷◌, length, map, MatchOption, Option, option_map, subst, sym}
+use Rattle.std.specs.List.Sorted.{IsPermutation}
+use Rattle.edf_check.specs.KeptReading.{kept_notes, origin_of}
 use Rattle.edf_check.specs.parts.Counted.{IsWhole, serial_counts}
-use Rattle.edf_check.specs.parts.Parts.{FollowOneAnother}
+use Rattle.edf_check.specs.parts.Parts.{FollowOneAnother, exported_by_all}
 use Rattle.edf_claim.specs.ClaimValues.{ClaimValue}
 use Rattle.edf_header.specs.Heads.{Head}
 use Rattle.edf_header.specs.HeadsReading.{head_of}
@@ -15,6 +16,7 @@ use Rattle.edf_findings.specs.Found.{AreFoundIn}
 use Rattle.edf_findings.specs.Laws.{AreFoundFrom}
 use Rattle.edf_findings.specs.Told.{AreTold}
 use Rattle.edf_findings.specs.declared.findings.Findings.{Findings}
+use Rattle.edf_findings.specs.declared.notes.both.Notes.{Notes}
 use Rattle.edf_findings.specs.declared.part.PartFindings.{PartFindings}
 use Rattle.edf_findings.specs.declared.part.ReadPart.{ReadPart}
 
@@ -45,13 +47,20 @@ pub record AreFoundOfCounts (original : List ℕ) (parts : List (List ℕ)) (cla
   pub also : AreSorted claim.channels others
   pub told : AreToldOfCounts claim others (head_of original) (serial_counts claim original (head_of original) (neg_ℤ (origin_of original)) (neg_ℤ (origin_of original +ℤ shift_ps claim)) labels beginning parts) found
 
+-- an original and its exports were read to their ends: the header, and the annotations, in some order
+whole_of : (original : List ℕ) (parts : List (List ℕ)) (claim : ClaimValue) (found : Findings) → FollowOneAnother parts → (from : AreFoundFrom original parts claim found)
+    → IsWhole original parts claim (record { head = found.original; kept = map note_value from.looker.notes.kept.items; exported = map note_value from.looker.notes.exported.items })
+whole_of original parts claim found follow from =
+    let notes = from.looker.notes in
+    let S : Option Head → Type 0 = λ x. MatchOption (option_map (λ (head : Head). record { head = head; kept = map note_value notes.kept.items; exported = map note_value notes.exported.items }) x) ⊥ (λ shown. FollowOneAnother parts → IsWhole original parts claim shown) in
+    subst S (from.are).original_is (from.seen).whole follow
+
 pub found_of_counts : (original : List ℕ) (parts : List (List ℕ)) (claim : ClaimValue) (found : Findings) → FollowOneAnother parts → AreFoundFrom original parts claim found → AreFoundOfCounts original parts claim found.parts.items
 found_of_counts original parts claim found follow from =
     let looker = from.looker in
     let are = from.are in
     let counted = (from.seen).counted in
-    let S : Option Head → Type 0 = λ x. MatchOption (option_map (λ (head : Head). record { head = head; kept = map note_value looker.notes.kept.items; exported = map note_value looker.notes.exported.items }) x) ⊥ (λ shown. FollowOneAnother parts → IsWhole original parts claim shown) in
-    let whole = subst S are.original_is (from.seen).whole follow in
+    let whole = whole_of original parts claim found follow from in
     let in-original = subst (λ (x : Head). AreFoundIn claim are.labels x looker.parts.items found.parts.items) whole.head are.are in
     record {
       labels = counted.labels;
@@ -60,3 +69,10 @@ found_of_counts original parts claim found follow from =
       also = are.sorted;
       told = subst (λ (counts : List ExportCount). AreToldOfCounts claim are.labels (head_of original) counts found.parts.items) counted.are (by-counts claim are.labels (head_of original) looker.parts.items found.parts.items in-original);
     }
+
+-- the annotations of findings are those that are kept and those of all exports, in some order
+pub notes_of_all : (original : List ℕ) (parts : List (List ℕ)) (claim : ClaimValue) (found : Findings) → FollowOneAnother parts → AreFoundFrom original parts claim found
+    → IsPermutation (kept_notes original claim) (map note_value found.notes.kept.items) × IsPermutation (exported_by_all original parts claim) (map note_value found.notes.exported.items)
+notes_of_all original parts claim found follow from =
+    let whole = whole_of original parts claim found follow from in
+    subst (λ (notes : Notes). IsPermutation (kept_notes original claim) (map note_value notes.kept.items) × IsPermutation (exported_by_all original parts claim) (map note_value notes.exported.items)) (sym (from.are).notes_are) (whole.kept, whole.exported)

@@ -1,7 +1,7 @@
 -- What the crates above cite of this crate's proofs; they cite nothing else of it.
 pub use Rattle.edf_pace.proofs.notes.NoteFacts.{note-apart, note-total, one-note}
-pub use Rattle.edf_pace.proofs.notes.NoteOrderFacts.{Answer, AreInOrder, more-with, once, turn, unequal-exact}
-pub use Rattle.edf_pace.proofs.notes.OnlyInOneFacts.{none_is_found}
+pub use Rattle.edf_pace.proofs.notes.NoteOrderFacts.{Answer, AreInOrder, counted, more-with, once, turn, unequal-exact}
+pub use Rattle.edf_pace.proofs.notes.OnlyInOneFacts.{first_is_first, none_is_found}
 pub use Rattle.edf_pace.proofs.notes.RearrangedFacts.{notes_in_words}
 pub use Rattle.edf_pace.proofs.walk.ChannelFacts.{ascending, difference_at}
 pub use Rattle.edf_pace.proofs.walk.watchers.CountedFacts.{counted_end, counted_in_part, first_walked, found_among, none_in_span, tallies_walked}

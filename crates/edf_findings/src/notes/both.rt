@@ -1,8 +1,8 @@
 //! The annotations of both files, and which of them only one has.
 
 ghost use Rattle.std.specs.Prelude.{◌≡◌, ◌↔◌, ◌++◌, ◌∷◌, [], map, IfOk, OnOk};
-ghost use Rattle.std.specs.List.Sorted.{IsPermutation};
-ghost use Rattle.edf_pace.specs.Annotations.{SameNotes};
+ghost use Rattle.std.specs.List.Sorted.{IsPermutation, IsSorted};
+ghost use Rattle.edf_pace.specs.Annotations.{SameNotes, note_cmp};
 ghost use Rattle.edf_pace.specs.notes.OnlyInOne.{AreOnlyInOne};
 ghost use Rattle.edf_stream.specs.Views.{note_value, notes_left};
 ghost use Rattle.edf_findings.specs.Gathered.{HaveNone, hidden_texts, is_hidden as is_hidden_of};
@@ -73,10 +73,14 @@ impl Notes {
     }
 
     /// The places of the annotations that only one of the files has, as often as it has them more often; none exactly where each
-    /// stands equally often in both. All are put in order before.
+    /// stands equally often in both. All are put in order before, and stay so.
     pub fn only_in_one(&mut self, alloc: Global) -> Result<OnlyInOne, AllocError>
         ensures kept { IfOk result (λ only. IsPermutation self.old.kept.items self.new.kept.items) }
         ensures exported { IfOk result (λ only. IsPermutation self.old.exported.items
+            self.new.exported.items) }
+        ensures kept_order { IfOk result (λ only. IsSorted (λ x y. note_cmp (note_value x) (note_value y))
+            self.new.kept.items) }
+        ensures exported_order { IfOk result (λ only. IsSorted (λ x y. note_cmp (note_value x) (note_value y))
             self.new.exported.items) }
         ensures value { IfOk result (λ only. AreOnlyInOne self.new.kept.items self.new.exported.items only) }
         ensures hidden { self.new.hidden ≡ self.old.hidden }
