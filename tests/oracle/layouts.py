@@ -301,7 +301,8 @@ def respell_number(file):
     text = rules.text(bytes(file.head[at:at + width]))
     is_whole = place[1] not in ("duration", "physical-minimum", "physical-maximum")
     sign = text[:1] if text[:1] in (b"+", b"-") else b""
-    plain = text[len(sign):].lstrip(b"0") or b"0"
+    plain = text[len(sign):].lstrip(b"0")
+    plain = plain if plain.strip(b".") else b"0" + plain
     other = one_of(b"", b"+", b"0", b"+0") + plain if sign != b"-" else sign + one_of(b"", b"0") + plain
     if not is_whole and b"." not in other:
         other += one_of(b"", b".", b".0")
