@@ -108,6 +108,7 @@ FirstNoteIsTold = (original export : List ℕ) (claim : ClaimValue) (found : Fin
     → AreListed found.notes kept exported only → first_said mismatch kept exported only ≡ Some note
 
 abbrev pub FirstNoteIsToldOfSeveral : Type 0
-FirstNoteIsToldOfSeveral = (original : List ℕ) (parts : List (List ℕ)) (claim : ClaimValue) (found : Findings) (v : PartsVerdict) (mismatch : AnnotationMismatch) (note : NoteValue) (kept exported : List Note) (only : OnlyInOne)
+FirstNoteIsToldOfSeveral = (original : List ℕ) (parts : List (List ℕ)) (claim : ClaimValue) (found : Findings) (v : PartsVerdict)
+    → (mismatch : AnnotationMismatch) (note : NoteValue) (kept exported : List Note) (only : OnlyInOne)
     → AreFoundInSeveral original parts claim found → IsPartsVerdict original parts claim v → v.verdict ≡ No (Annotation mismatch note.onset note.duration note.text)
     → AreListed found.notes kept exported only → first_said mismatch kept exported only ≡ Some note
