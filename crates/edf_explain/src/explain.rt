@@ -97,7 +97,6 @@ fn say_behind<R: Recordings>(
 ) -> Result<(), AllocError> {
     let read = ReadTexts {
         claim: both.claimed.claim(),
-        claim_text: asked.claim_text,
         original: both.claimed.original_header(),
         export: both.claimed.export_header(),
         others: both.claimed.others(),
@@ -150,7 +149,7 @@ fn say_reckoned<R: Recordings>(
     let wanted = Wanted {
         claim_text,
         claim: &claim,
-        hidden: asks_for_texts(alloc, claim_text)?,
+        hidden: asks_for_texts(&claim),
     };
     let Some(mut seen) = seen_anew(alloc, asked, wanted)? else {
         text.say(READ_ANEW, &[])?;

@@ -201,7 +201,6 @@ fn say_behind<R: PartsRecordings>(
 ) -> Result<(), AllocError> {
     let read = ReadTexts {
         claim: seen.claim(),
-        claim_text: parts.asked.claim_text,
         original: seen.original_header(),
         export: seen.export_header(),
         others: seen.others(),
@@ -263,7 +262,7 @@ fn say_reckoned<R: PartsRecordings>(
     let wanted = Wanted {
         claim_text,
         claim: &claim,
-        hidden: asks_for_texts(alloc, claim_text)?,
+        hidden: asks_for_texts(&claim),
     };
     match seen_anew(alloc, parts, wanted)? {
         Some(mut seen) => say_listed(text, parts, &mut seen, shifts),

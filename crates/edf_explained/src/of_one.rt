@@ -38,7 +38,7 @@ pub fn run_explained<O: Source, E: Source, K: Sink, R: Recordings>(
     let wanted = Wanted {
         claim_text,
         claim: &claim,
-        hidden: asks_for_texts(alloc, claim_text)?,
+        hidden: asks_for_texts(&claim),
     };
     let mut first = FrontSource::new(alloc, Lent::new(original));
     let mut second = FrontSource::new(alloc, Lent::new(export));

@@ -62,7 +62,7 @@ pub fn run_explained_parts<O: Source + Drop, E: Source + Drop, K: Sink, R: Parts
     let wanted = Wanted {
         claim_text,
         claim: &claim,
-        hidden: asks_for_texts(alloc, claim_text)?,
+        hidden: asks_for_texts(&claim),
     };
     let CheckedParts { verdict, found } = findings_of_parts(alloc, original, parts, wanted)?;
     let line = verdict.line(alloc, count)?;

@@ -1,13 +1,13 @@
 //! Texts of a claim that no annotation has.
 
+ghost use Rattle.std.specs.Prelude.{◌≡◌, ◌||◌, length, nat_lt};
+
 use crate::read_texts::ReadTexts;
 use crate::words;
-use edf_claim::claim_key;
+use edf_claim::{Claim, claim_key};
 use edf_findings::Notes;
 use edf_sentences::{Piece, Text, look_alike, other_bytes};
 use std::alloc::{AllocError, Global};
-use toml::Table;
-use toml::value::Array;
 
 /// Of how many texts that no annotation has it is asked which annotation has one that looks alike.
 const MOST_ALIKE: usize = 20;
@@ -32,22 +32,14 @@ fn texts_seen(alloc: Global, notes: &Notes) -> Result<Vec<&str>, AllocError> {
     Ok(seen)
 }
 
-/// Whether a claim removes or blanks texts.
-fn names_texts(table: &Table) -> bool {
-    texts_at(table, claim_key::REMOVE).is_some()
-        || texts_at(table, claim_key::REMOVE_PREFIX).is_some()
-        || texts_at(table, claim_key::BLANK).is_some()
-}
-
-/// Whether the text of a claim removes or blanks texts, so that it is asked whether annotations have them.
-///
-/// The error is want of memory.
-pub fn asks_for_texts(alloc: Global, claim_text: &[u8]) -> Result<bool, AllocError> {
-    match toml::table_from_slice(alloc, claim_text) {
-        Ok(table) => Ok(names_texts(&table)),
-        Err(fault) if fault.is_memory() => Err(AllocError),
-        Err(_) => Ok(false),
-    }
+/// Whether a claim removes or blanks texts, so that it is asked whether annotations have them.
+pub fn asks_for_texts(claim: &Claim) -> bool
+    ensures { result ≡ (nat_lt 0 (length claim.now.remove) || nat_lt 0 (length claim.now.remove_prefix)
+        || nat_lt 0 (length claim.now.blank)) }
+{
+    !claim.removed().is_empty()
+        || !claim.removed_by_begin().is_empty()
+        || !claim.blanked().is_empty()
 }
 
 /// Says which text that was seen looks like one of a claim, and which bytes are others.
@@ -78,22 +70,19 @@ fn is_begin_seen(seen: &[&str], begin: &str) -> bool {
     }
 }
 
-/// The texts of a claim at a key.
-fn texts_at<'a>(table: &'a Table, key: &str) -> Option<&'a Array> {
-    table.get(key)?.as_array()
-}
-
-/// Says which texts of a claim no annotation has in the kept intervals.
-fn say_unseen(text: &mut Text, table: &Table, key: &str, seen: &[&str]) -> Result<(), AllocError> {
-    let Some(array) = texts_at(table, key) else {
-        return Ok(());
-    };
+/// Says which of these texts of a claim, which stand there at this key, no annotation has in the kept intervals.
+fn say_unseen(
+    text: &mut Text,
+    texts: &[Vec<u8>],
+    key: &str,
+    seen: &[&str],
+) -> Result<(), AllocError> {
     let mut count: usize = 0;
-    for value in array {
-        if let Some(said) = value.as_str()
+    for bytes in texts {
+        if let Ok(said) = std::str::from_utf8(bytes)
             && !is_seen(seen, said)
         {
-            let pieces = [Piece::Quoted(said.as_bytes()), Piece::Word(key)];
+            let pieces = [Piece::Quoted(bytes), Piece::Word(key)];
             text.say(words::TEXT_UNSEEN, &pieces)?;
             if count < MOST_ALIKE {
                 say_alike(text, seen, said)?;
@@ -104,21 +93,18 @@ fn say_unseen(text: &mut Text, table: &Table, key: &str, seen: &[&str]) -> Resul
     Ok(())
 }
 
-/// Says with which texts of a claim no annotation begins in the kept intervals.
+/// Says with which of these texts no annotation begins there.
 fn say_begins_unseen(
     text: &mut Text,
-    table: &Table,
+    texts: &[Vec<u8>],
     key: &str,
     seen: &[&str],
 ) -> Result<(), AllocError> {
-    let Some(array) = texts_at(table, key) else {
-        return Ok(());
-    };
-    for value in array {
-        if let Some(said) = value.as_str()
+    for bytes in texts {
+        if let Ok(said) = std::str::from_utf8(bytes)
             && !is_begin_seen(seen, said)
         {
-            let pieces = [Piece::Quoted(said.as_bytes()), Piece::Word(key)];
+            let pieces = [Piece::Quoted(bytes), Piece::Word(key)];
             text.say(words::BEGIN_UNSEEN, &pieces)?;
         }
     }
@@ -127,16 +113,17 @@ fn say_begins_unseen(
 
 /// Says which texts of a claim may be misspelt.
 pub(crate) fn say_misspelt(text: &mut Text, read: ReadTexts<'_>) -> Result<(), AllocError> {
-    let table = match toml::table_from_slice(text.alloc(), read.claim_text) {
-        Ok(table) => table,
-        Err(fault) if fault.is_memory() => return Err(AllocError),
-        Err(_) => return Ok(()),
-    };
-    if !names_texts(&table) {
+    let claim = read.claim;
+    if !asks_for_texts(claim) {
         return Ok(());
     }
     let seen = texts_seen(text.alloc(), read.notes)?;
-    say_unseen(text, &table, claim_key::REMOVE, &seen)?;
-    say_begins_unseen(text, &table, claim_key::REMOVE_PREFIX, &seen)?;
-    say_unseen(text, &table, claim_key::BLANK, &seen)
+    say_unseen(text, claim.removed(), claim_key::REMOVE, &seen)?;
+    say_begins_unseen(
+        text,
+        claim.removed_by_begin(),
+        claim_key::REMOVE_PREFIX,
+        &seen,
+    )?;
+    say_unseen(text, claim.blanked(), claim_key::BLANK, &seen)
 }
