@@ -63,7 +63,8 @@ fn count_tracks(files: Files<'_>, tracks: (Track, Track), common: &Common, tally
             let y = shown(export, there, &shares.export);
             count_differences(x, y, meeting, tally);
         }
-        None => count_unmet(files, tracks, shares, tally),
+        // the pair is made here, so that the arm above stores none
+        None => count_unmet(files, (here, there), shares, tally),
     }
 }
 
