@@ -9,8 +9,8 @@ import re
 import unittest
 
 from tests.cases import rows_of
-from tests.cases.parts import FIRST, JUST_EARLY, KEPT_TIME, SECOND, SECONDS, changed, second
-from tests.cases.small_night import BOTH, LANE_0, LANE_1, NIGHT, VALUES_0, VALUES_1
+from tests.cases.parts import AT_TWO, FIRST, JUST_EARLY, KEPT_TIME, SECOND, SECONDS, SINGLE, changed, second
+from tests.cases.small_night import BOTH, LANE_0, LANE_1, LANE_3, NIGHT, VALUES_0, VALUES_1, VALUES_2, VALUES_3
 from tests.edf import field, lane, signal, values
 from tests.explain import sentences, tries
 from tests.harness import ProgramCase, each
@@ -24,6 +24,25 @@ EARLY = "  It begins before the part in front of it ends"
 # The first half with another value of the channel `EEG Fpz-Cz`, and without its first annotation.
 OTHER_FIRST = recording(parts=[VALUES_0, LANE_0, values([40, 50, 60, 71, 102, 103]), LANE_1], base=FIRST)
 FIRST_WITHOUT_NOTE = recording(parts=[VALUES_0, KEPT_TIME, VALUES_1, LANE_1], base=FIRST)
+
+# Annotations more than the night has: one of the second half, one that both have, and one that the second half has twice.
+MORE_IN_SECOND = second(first_lane=lane(40, b"+0\x14\x14\x00+0.5\x14Snoring\x14\x00"))
+APNEA_IN_FIRST = recording(
+    parts=[VALUES_0, LANE_0, VALUES_1, lane(40, b"+1\x14\x14\x00+1.5\x151\x14Apnea\x14\x00+3\x14Apnea\x14\x00")], base=FIRST
+)
+MORE_AT_ONE_TIME = second(last_lane=lane(40, b"+1\x14\x14\x00+1\x14Apnea\x14Snoring\x14\x00"))
+TWICE_IN_SECOND = second(last_lane=lane(40, b"+1\x14\x14\x00+1\x14Apnea\x14Apnea\x14\x00"))
+# The annotations of the first half a quarter of a second earlier; and the second half in one data record, with one more.
+EARLIER_IN_FIRST = recording(
+    parts=[VALUES_0, lane(40, b"+0\x14\x14\x00+0.25\x14Lights off\x14\x00"),
+           VALUES_1, lane(40, b"+1\x14\x14\x00+1.25\x151\x14Apnea\x14\x00")], base=FIRST
+)
+LONG_SECOND = recording(
+    edits=[SINGLE, AT_TWO, (field("duration"), "2"), (signal(0, "samples"), "8"), (signal(1, "samples"), "4")],
+    parts=[values([80, 90, 100, 110, 120, 130, 140, 150, 104, 105, 106, 107]),
+           lane(40, b"+0\x14\x14\x00+0.5\x14Snoring\x14\x00+1\x14Apnea\x14\x00")], base=NIGHT
+)
+
 OTHER_SECOND = second(third=values([80, 90, 100, 110, 104, 106]), fourth=values([120, 130, 140, 150, 107, 107]))
 
 ONE_OF_EEG = 'Channel "EEG Fpz-Cz": 1 sample has another value in the export.\n'
@@ -120,6 +139,67 @@ ROWS = [
         1,
         [behind(0, AS_CLAIMED), behind(1, TWO_OF_ECG), "The annotations of all parts together:", '"Lights off"'],
         [],
+    ),
+    (
+        "an_annotation_more_in_the_second_half",
+        [FIRST, MORE_IN_SECOND],
+        1,
+        [
+            "The annotations of all parts together:\nThe export has 1 annotation that the claim doesn't keep:\n  at 2.5 s (",
+            ', no duration, text "Snoring"\n    Part 1 has 1 annotation that begins at this time.\n    The original has no such annotation',
+        ],
+        ["    Part 0 has"],
+    ),
+    (
+        "an_annotation_in_both_halves",
+        [APNEA_IN_FIRST, SECOND],
+        1,
+        [
+            'text "Apnea"\n    Part 0 has 1 annotation that begins at this time.\n    Part 1 has 1 annotation that begins at this time.\n'
+            "    The claim keeps this annotation, but fewer times",
+        ],
+        ["    Part 2 has"],
+    ),
+    (
+        "an_annotation_twice_in_the_second_half",
+        [FIRST, TWICE_IN_SECOND],
+        1,
+        ['text "Apnea"\n    Part 1 has 2 annotations that begin at this time.\n    The claim keeps this annotation, but fewer times'],
+        ["    Part 0 has"],
+    ),
+    (
+        "an_annotation_more_beside_one_that_is_kept",
+        [FIRST, MORE_AT_ONE_TIME],
+        1,
+        ["has 1 annotation that", 'text "Snoring"\n    Part 1 has 2 annotations that begin at this time.\n    The original has no such annotation'],
+        ["    Part 0 has", 'text "Apnea"'],
+    ),
+    (
+        "an_annotation_more_in_a_half_of_one_data_record",
+        [FIRST, LONG_SECOND],
+        1,
+        ['  at 2.5 s (', 'text "Snoring"\n    Part 1 has 1 annotation that begins at this time.\n    The original has no such annotation'],
+        ["    Part 0 has"],
+    ),
+    (
+        "annotations_of_the_first_half_moved",
+        [EARLIER_IN_FIRST, SECOND],
+        1,
+        [
+            "All 2 annotations that differ are only moved",
+            "earlier than the claim keeps it.\nThe export has 2 annotations that the claim doesn't keep:\n  at 0.25 s (",
+            'text "Lights off"\n    Part 0 has 1 annotation that begins at this time.\n',
+            'text "Apnea"\n    Part 0 has 1 annotation that begins at this time.\n',
+        ],
+        ["    Part 1 has", "annotations that the claim keeps:"],
+    ),
+    (
+        "an_annotation_more_in_one_export",
+        [recording(parts=[VALUES_0, LANE_0, VALUES_1, LANE_1, VALUES_2, lane(40, b"+2\x14\x14\x00+2.5\x14Snoring\x14\x00"), VALUES_3, LANE_3],
+                   base=NIGHT)],
+        1,
+        ['text "Snoring"\n    The original has no such annotation'],
+        ["at this time."],
     ),
     ("halves_exchanged", [SECOND, FIRST], 1, [EARLY, "put the parts in the order of time"], [behind(1, AS_CLAIMED), "together"]),
     ("a_hair_early", [FIRST, JUST_EARLY], 1, [behind(0, AS_CLAIMED), behind(1, EARLY)], ["together"]),
@@ -231,6 +311,18 @@ TRIES = [
      ["With shift", "another value"]),
     ("the_right_shift_and_another_value", tries.NIGHT, [MOVED[0], MOVED[1].changed("ECG", 100, -1)], tries.of_ten(),
      [behind(0, AS_CLAIMED), behind(1, 'Channel "ECG": 1 sample has another value')], TRIED),
+    # the first half ends before the time that the claim keeps, so nobody knows where the second one should start
+    ("halves_an_hour_early", tries.NIGHT, [half.but(shift=-tries.DAY - 3600) for half in HALVES], tries.of_ten(),
+     [behind(0, 'Channel "EEG Fpz-Cz": 120 samples of the export are ones that the claim doesn\'t keep'),
+      behind(1, 'Channel "EEG Fpz-Cz": 240 samples that the claim keeps are missing in the export.')],
+     ["The export starts", *TRIED]),
+    # the first part ends where the second interval has begun, so what it lacks there isn't where the second part should start
+    ("two_intervals_later", tries.NIGHT,
+     [tries.NIGHT.cut(10, 40, 15 - tries.DAY), tries.NIGHT.cut(50, 70, 15 - tries.DAY).changed("ECG", 110, -1)],
+     Claimed(tries.BOTH, [(10, 40), (50, 70)], -tries.DAY),
+     [f"With shift = {15 - tries.DAY} the first difference would be NO 10", behind(0, "The export starts 15 s later than claimed"),
+      behind(1, 'Channel "')],
+     ["The export starts 10 s later"]),
     ("a_misspelt_channel", tries.NIGHT, HALVES, Claimed(["EEG Fpz-Cz", "EGC"], [(10, 70)]),
      [f'With channels = ["EEG Fpz-Cz", "ECG"] {YES} 1.'], ["With shift", "With to", "were tried"]),
     ("a_channel_of_another_name", tries.NIGHT, HALVES, Claimed(["EEG Fpz-Cz", "Blood pressure"], [(10, 70)]),

@@ -7,7 +7,8 @@ It makes COUNT nights with a claim and a wrong export as tests/oracle/honesty.py
 `check-parts` and `explain-parts` on each. What the sentences state is recounted from how the files were made: of each part which
 rules of its header are broken, and whether its samples were compared all the same; by how much it starts elsewhere, where it starts
 and is claimed to, and of each of its channels how many samples are missing, too many and changed, the first and the last of them,
-and how many of how many are changed where nearly all are; of all parts together which annotations are missing and too many. What is
+and how many of how many are changed where nearly all are; of all parts together which annotations are missing and too many, and of
+each of those that are too many how many annotations of each part begin when it does. What is
 missing in front of a part counts for it, and behind the last part for that one. Each change of the claim that is named is put into
 the claim, `check-parts` is run again, and its line is compared with what was said.
 
@@ -19,13 +20,16 @@ import re
 import sys
 import tempfile
 
-from tests.explain.sentences import OF_PARTS, sentences
-from tests.made import PS, apart
+from tests.edf import seconds
+from tests.explain.sentences import OF_PARTS, filled, sentences
+from tests.made import PS, apart, notes_apart
 from tests.oracle.honesty import (
-    Honesty, Said, case, choose, clock, common, head_lines, lines_of, wrong_head_lines, wrong_nearly_all, wrong_notes, wrong_spot,
+    LISTED, NOTES, Honesty, Said, case, choose, clock, common, head_lines, lines_of, wrong_head_lines, wrong_listed, wrong_nearly_all,
+    wrong_notes, wrong_spot,
 )
 
 PART = re.compile(r"^Part (\d+):$")
+THEN = re.compile(r"^    Part \d+ has \d+ annotations? that begins? at this time\.$")
 SENTENCES = sentences([OF_PARTS])
 TOGETHER, NOTES_AS_CLAIMED = SENTENCES["NOTES_OF_ALL"], SENTENCES["NOTES_OF_ALL_AS_CLAIMED"]
 AS_CLAIMED = SENTENCES["PART_AS_CLAIMED"]
@@ -86,16 +90,22 @@ def span_of(parts, number, moved):
     return first, end(parts[number]) if number + 1 < len(parts) else 10**30
 
 
-def wrong_start(said, original, part, claim, span, shift):
-    """What is wrong with where a part starts, by this shift."""
-    kept = [at for label in common(original, part, claim) for at in original.samples(label)
+def kept_in(original, part, claim, span):
+    """When the samples are taken that are kept in the time that counts for a part, of the channels that both have."""
+    return [at for label in common(original, part, claim) for at in original.samples(label)
             if claim.keeps(at) and span[0] <= at < span[1]]
-    if not kept:
-        return None if said.starts is None else f"nothing is kept; said: {said.starts}"
-    claimed = clock(min(kept), shift)
+
+
+def wrong_start(said, original, parts, number, claim, shift):
+    """What is wrong with where a part starts, by this shift. Behind a part that doesn't start as claimed, or in whose time nothing is
+    kept, it isn't known where one should start."""
+    for place, part in enumerate(parts[:number + 1]):
+        kept = kept_in(original, part, claim, span_of(parts, place, (part.shift - shift) * PS))
+        later = (part.begin() + part.shift - shift) * PS + part.fraction - min(kept, default=0)
+        if not kept or later and place < number:
+            return None if said.starts is None else f"it isn't known where it should start; said: {said.starts}"
     exported = clock(part.begin() * PS + part.fraction, part.shift)
-    later = (part.begin() + part.shift - shift) * PS + part.fraction - min(kept)
-    want = (abs(later), "earlier" if later < 0 else "later", exported, claimed) if later else None
+    want = (abs(later), "earlier" if later < 0 else "later", exported, clock(min(kept), shift)) if later else None
     return None if said.starts == want else f"it starts {want}; said: {said.starts}"
 
 
@@ -116,7 +126,7 @@ def wrong_part(lines, original, parts, number, claim, shift):
     """What is wrong with what is said of a part, by this shift."""
     part, said = parts[number], Said("\n".join(lines))
     span, counts = span_of(parts, number, (part.shift - shift) * PS), []
-    if wrong := wrong_start(said, original, part, claim, span, shift) or wrong_heads(lines, said, original, part, claim):
+    if wrong := wrong_start(said, original, parts, number, claim, shift) or wrong_heads(lines, said, original, part, claim):
         return wrong
     for label in common(original, part, claim):
         found_apart = apart(original, part, claim, label, shift)
@@ -134,6 +144,31 @@ def wrong_part(lines, original, parts, number, claim, shift):
     if said.counts:
         return f"said of samples that aren't: {said.counts}"
     return wrong_nearly_all(said, counts)
+
+
+def lines_then(at, parts, shift):
+    """What has to be said of an annotation that is too many at a time, in seconds as a sentence says it: how many of each part begin
+    then. Of one part alone nothing is said."""
+    for number, part in enumerate(parts if len(parts) > 1 else []):
+        count = sum(seconds(onset + (part.shift - shift) * PS) == at for onset, *_ in part.notes)
+        if count == 1:
+            yield filled(SENTENCES["NOTE_THEN"], [str(number)])
+        elif count:
+            yield filled(SENTENCES["NOTES_THEN"], [str(number), str(count)])
+
+
+def wrong_then(lines, parts, shift):
+    """What is wrong with how many annotations of each part are said to begin when one does that is too many."""
+    want, is_extra = [], False
+    for line in lines:
+        if THEN.match(line):
+            continue
+        want.append(line)
+        if any(pattern.match(line) for pattern in NOTES.values()):
+            is_extra = bool(NOTES["has"].match(line))
+        if is_extra and (found := LISTED.match(line)):
+            want += lines_then(found[1], parts, shift)
+    return None if want == lines else f"of the parts that have annotations too many it lacks {want}; said: {lines}"
 
 
 class HonestParts(Honesty):
@@ -183,7 +218,7 @@ class HonestParts(Honesty):
             if sections.together or any(Said("\n".join(lines)).counts for lines in sections.parts):
                 return "samples or annotations are listed"
             first = Said("\n".join(sections.parts[0]))
-            return wrong_start(first, original, parts[0], claim, span_of(parts, 0, (parts[0].shift - claim.shift) * PS), claim.shift)
+            return wrong_start(first, original, parts, 0, claim, claim.shift)
         shift = claim.shift if said.reckoned is None else said.reckoned
         for number, lines in enumerate(sections.parts):
             if wrong := wrong_part(lines, original, parts, number, claim, shift):
@@ -195,7 +230,15 @@ class HonestParts(Honesty):
         are_as_claimed = sections.together is None and any(any(head_lines(original, part, claim)) for part in parts)
         if sections.are_notes_as_claimed != are_as_claimed:
             return f"are all annotations as claimed behind other headers: {are_as_claimed}; said: {sections.are_notes_as_claimed}"
-        return wrong_notes(Said("\n".join(sections.together or [])), original, export, claim, shift)
+        together = sections.together or []
+        self.seen["annotations of which it is said which part has them"] += any(THEN.match(line) for line in together)
+        of_notes = Said("\n".join(together))
+        if wrong := wrong_notes(of_notes, original, export, claim, shift) or wrong_then(together, parts, shift):
+            return wrong
+        if of_notes.is_one_way and len(parts) > 1:
+            self.seen["annotations that differ in one way, of several parts"] += 1
+            return wrong_listed(of_notes, "has", notes_apart(original, export, claim, shift)[1], shift)
+        return None
 
 
 def main():

@@ -5,5 +5,6 @@ pub mod clocks;
 pub mod compared;
 pub mod headers;
 pub mod likeness;
+pub mod parts_then;
 pub mod samples;
 pub mod starts;

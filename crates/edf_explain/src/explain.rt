@@ -60,12 +60,8 @@ fn say_differences<R: Recordings>(
     both: Both<'_, '_, '_, '_>,
     shifts: &TriedShifts,
 ) -> Result<(), RunStop> {
-    let heads = Heads {
-        original: both.claimed.original_header(),
-        export: both.claimed.export_header(),
-        claim: both.claimed.claim(),
-    };
-    let heads_differ = say_heads(text, heads)?;
+    let heads = Heads::of(both.claimed, both.claimed.first());
+    let heads_differ = say_heads(text, both.claimed, both.claimed.first())?;
     say_other_channels(text, asked, heads)?;
     say_starts(text, both.claimed, shifts)?;
     if shifts.has_yes() {
@@ -82,7 +78,7 @@ fn say_differences<R: Recordings>(
         both.reckoned.channels(),
         clocks,
     )?;
-    say_annotations(text, heads.claim, notes, both.only, clocks)?;
+    say_annotations(text, both.reckoned, both.only, clocks)?;
     if shifts.are_none() {
         say_other_end(text, asked, heads.claim, notes, both.only)?;
     }

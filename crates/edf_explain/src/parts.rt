@@ -105,12 +105,13 @@ fn say_faults<R: PartsRecordings>(
 /// Says how the samples of a part aren't as claimed.
 fn say_samples_of_part(
     text: &mut Text,
-    heads: Heads<'_>,
+    seen: &Findings<'_>,
+    number: u16,
     part: &PartFindings,
 ) -> Result<(), AllocError> {
-    say_start_of_part(text, part)?;
-    let clocks = Clocks::of(heads.original, part);
-    say_samples(text, heads.claim.channels(), part.channels(), clocks)
+    say_start_of_part(text, seen, number, part)?;
+    let clocks = Clocks::of(seen.original_header(), part);
+    say_samples(text, seen.claim().channels(), part.channels(), clocks)
 }
 
 /// Says how a part isn't as claimed, or that it is, and answers whether its header isn't.
@@ -120,21 +121,16 @@ fn say_part(
     number: u16,
     part: &PartFindings,
 ) -> Result<bool, AllocError> {
-    let heads = Heads {
-        original: seen.original_header(),
-        export: part.header(),
-        claim: seen.claim(),
-    };
     say_part_name(text, number)?;
     let said = text.bytes().len();
-    let heads_differ = say_heads(text, heads)?;
+    let heads_differ = say_heads(text, seen, part)?;
     if !part.is_compared() {
         return Ok(heads_differ);
     }
     if heads_differ {
         say_part_compared(text, part)?;
     }
-    say_samples_of_part(text, heads, part)?;
+    say_samples_of_part(text, seen, number, part)?;
     if text.bytes().len() == said {
         text.say(words::PART_AS_CLAIMED, &[])?;
     }
@@ -190,7 +186,7 @@ fn say_notes(
     }
     text.say(words::NOTES_OF_ALL, &[])?;
     let clocks = Clocks::of(seen.original_header(), seen.first());
-    say_annotations(text, seen.claim(), seen.notes(), only, clocks)
+    say_annotations(text, seen, only, clocks)
 }
 
 /// Says what is to be done behind the differences, or what to read where there is none.
@@ -277,17 +273,13 @@ fn say_seen<R: PartsRecordings>(
     parts: &PartsAsked<'_, R>,
     mut seen: Findings<'_>,
 ) -> Result<(), PartsRunStop> {
-    let heads = Heads {
-        original: seen.original_header(),
-        export: seen.export_header(),
-        claim: seen.claim(),
-    };
+    let heads = Heads::of(&seen, seen.first());
     say_other_channels(text, &parts.asked, heads)?;
     let shifts = TriedShifts::of(text.alloc(), &parts.asked, seen.starts())?;
     say_shifts_of_parts(text, &seen, &shifts)?;
     if shifts.has_yes() {
         say_part_name(text, 0)?;
-        say_start_of_part(text, seen.first())?;
+        say_start_of_part(text, &seen, 0, seen.first())?;
         say_behind(text, parts, &seen)?;
         return Ok(());
     }

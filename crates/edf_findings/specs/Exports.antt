@@ -1,5 +1,5 @@
 -- What callers are shown of what was found.
-use Rattle.std.specs.Prelude.{◌==◌, ◌&&◌, ℤ, pos, Bool, false, List, [], length, slice_get, Option, None, Some, option_and_then}
+use Rattle.std.specs.Prelude.{◌==◌, ◌&&◌, ℕ, ℤ, pos, Bool, false, List, [], length, slice_get, Option, None, Some, option_and_then}
 use Rattle.edf_claim.specs.ClaimValues.{ClaimValue}
 use Rattle.edf_header.specs.Heads.{Head}
 use Rattle.edf_findings.specs.declared.findings.Findings.{Findings}
@@ -24,6 +24,18 @@ channels_of part = compared_channels part.compared
 -- where an export starts; none where it wasn't compared, or the original has no sample that is kept
 abbrev pub starts_of : PartFindings → Option Starts
 starts_of part = option_and_then (λ (compared : ComparedPart). compared.starts) part.compared
+
+-- when the annotations begin of an export that was compared, as far as that is noted
+abbrev pub onsets_in : Option ComparedPart → List ℤ
+onsets_in None = []
+onsets_in (Some part) = part.onsets.items
+
+abbrev pub onsets_of : PartFindings → List ℤ
+onsets_of part = onsets_in part.compared
+
+-- how many these are
+abbrev pub count_onsets : PartFindings → ℕ
+count_onsets part = length (onsets_of part)
 
 -- whether an interval was found without a sample of the original
 abbrev pub keeps_between_in : Option ComparedPart → Bool

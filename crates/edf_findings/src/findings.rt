@@ -1,6 +1,6 @@
 //! What an original and its exports differ in that were read to their ends.
 
-ghost use Rattle.std.specs.Prelude.{◌≡◌, ◌↔◌, ◌<◌, [], length, map, drop, nat_lt, option_map, is_some, Some, IfOk, IfSome};
+ghost use Rattle.std.specs.Prelude.{◌≡◌, ◌↔◌, ◌<◌, [], length, map, drop, nat_lt, sum_by, IsTrue, option_map, is_some, Some, IfOk, IfSome};
 
 use crate::notes::both::Notes;
 use crate::part::PartFindings;
@@ -8,6 +8,7 @@ use crate::samples::compared::ComparedChannel;
 use crate::starts::Starts;
 use edf_claim::Claim;
 use edf_header::Header;
+use edf_heads::{HeadDifference, head_differences};
 use edf_pace::OnlyInOne;
 use std::alloc::{AllocError, Global};
 
@@ -22,11 +23,13 @@ pub struct Findings<'a> {
 }
 
 impl<'a> Findings<'a> {
-    ghost use Rattle.std.specs.List.Sorted.{IsPermutation};
-    ghost use Rattle.edf_pace.specs.Annotations.{SameNotes};
+    ghost use Rattle.std.specs.List.Sorted.{IsPermutation, IsSorted};
+    ghost use Rattle.edf_pace.specs.Annotations.{SameNotes, note_cmp};
     ghost use Rattle.edf_pace.specs.notes.OnlyInOne.{AreOnlyInOne};
     ghost use Rattle.edf_stream.specs.Views.{note_value};
-    ghost use Rattle.edf_findings.specs.Exports.{channels_of, first_of, has_all_of, head_in, keeps_between_in, moved_in, starts_of};
+    ghost use Rattle.edf_heads.specs.Comparisons.{difference_of};
+    ghost use Rattle.edf_heads.specs.HeadVerdicts.{AreAllBroken};
+    ghost use Rattle.edf_findings.specs.Exports.{channels_of, count_onsets, first_of, has_all_of, head_in, keeps_between_in, moved_in, starts_of};
     ghost use Rattle.edf_findings.specs.Found.{AreFindings};
 
     /// Those of these files; none where there is no export.
@@ -71,6 +74,37 @@ impl<'a> Findings<'a> {
         self.first().channels()
     }
 
+    /// Every rule of the headers of the original and one of these exports that is broken under the claim, and no other, in the order of
+    /// `head_differences`.
+    ///
+    /// The error is want of memory.
+    pub fn broken_rules<'b>(
+        &'b self,
+        alloc: Global,
+        part: &'b PartFindings,
+    ) -> Result<Vec<HeadDifference<'b>>, AllocError>
+        ensures { IfOk result (λ rules. AreAllBroken self.entry.now.original (head_in part.entry.now)
+            self.entry.now.claim.now (map difference_of rules.items)) }
+    {
+        head_differences(alloc, &self.original, part.header(), self.claim)
+    }
+
+    /// Whether it was noted of as many annotations when they begin as all exports have.
+    pub fn has_all_onsets(&self) -> bool
+        ensures { IsTrue result ↔ (sum_by count_onsets self.now.parts.items ≡
+            length self.now.notes.exported.items) }
+    {
+        let mut left = self.notes.exported.len();
+        for part in &self.parts {
+            let count = part.onsets().len();
+            if count > left {
+                return false;
+            }
+            left -= count;
+        }
+        left == 0
+    }
+
     /// The annotations of all files.
     pub fn notes(&self) -> &Notes
         ensures { result.now ≡ self.entry.now.notes }
@@ -78,11 +112,15 @@ impl<'a> Findings<'a> {
         &self.notes
     }
 
-    /// The annotations that only the original or only the exports have. All are put in order before.
+    /// The annotations that only the original or only the exports have. All are put in order before, and stay so.
     pub fn only_in_one(&mut self, alloc: Global) -> Result<OnlyInOne, AllocError>
         ensures kept { IfOk result (λ only. IsPermutation self.old.notes.kept.items
             self.new.notes.kept.items) }
         ensures exported { IfOk result (λ only. IsPermutation self.old.notes.exported.items
+            self.new.notes.exported.items) }
+        ensures kept_order { IfOk result (λ only. IsSorted (λ x y. note_cmp (note_value x) (note_value y))
+            self.new.notes.kept.items) }
+        ensures exported_order { IfOk result (λ only. IsSorted (λ x y. note_cmp (note_value x) (note_value y))
             self.new.notes.exported.items) }
         ensures value { IfOk result (λ only. AreOnlyInOne self.new.notes.kept.items
             self.new.notes.exported.items only) }

@@ -1,10 +1,10 @@
 //! Who looks on while an original and its exports are checked, and takes in what they differ in.
 
-ghost use Rattle.std.specs.Prelude.{◌≡◌, ◌&&◌, ◌++◌, ◌∷◌, [], ℤ, is_some, length, nat_lt, IfOk, IfSome, OnOk, None, Some, true};
+ghost use Rattle.std.specs.Prelude.{◌≡◌, ◌&&◌, ◌++◌, ◌∷◌, [], ℤ, is_some, length, nat_lt, IfOk, IfSome, OnOk, None, Some, false, true};
 ghost use Rattle.edf_claim.specs.KeepsReading.{IsUncut};
 ghost use Rattle.edf_heads.specs.Comparisons.{AreSorted};
 ghost use Rattle.edf_findings.specs.Found.{AreFoundBy, AreFoundIn, counted_by, shown_by};
-ghost use Rattle.edf_findings.specs.Gathered.{HaveNone, hidden_at};
+ghost use Rattle.edf_findings.specs.Gathered.{HaveNone, hidden_at, onsets_at};
 ghost use Rattle.edf_pace.specs.walk.Counting.{AreCounts};
 ghost use Rattle.edf_pace.specs.walk.Pairs.{IsFrame};
 ghost use Rattle.edf_pace.specs.walk.Watching.{HasSeenIn, TwoFiles};
@@ -28,6 +28,8 @@ pub(crate) struct Looker {
     alloc: Global,
     /// Whether texts are remembered that the claim removes or blanks.
     wants_hidden: bool,
+    /// Whether it is noted when the annotations of each export begin.
+    wants_onsets: bool,
     /// Whether there was memory for all that was noted.
     is_whole: bool,
     originals: RecordCount,
@@ -68,20 +70,35 @@ impl Looker {
         ensures original { result.original ≡ None }
         ensures notes { HaveNone result.notes }
         ensures hidden { result.wants_hidden ≡ wants_hidden }
+        ensures onsets { result.wants_onsets ≡ false }
     {
         Looker {
             alloc,
             wants_hidden,
+            wants_onsets: false,
             is_whole: true,
             originals: RecordCount::NONE,
             counts: Counts {
                 channels: Vec::new(alloc),
             },
-            part: PartSoFar::none(),
+            part: PartSoFar::none(alloc, false),
             parts: Vec::new(alloc),
             notes: Notes::new(alloc),
             original: None,
         }
+    }
+
+    /// The same of so many exports: where they are several, it is noted of each when its annotations begin.
+    pub(crate) fn of_parts(alloc: Global, wants_hidden: bool, count: usize) -> Looker
+        ensures counted { counted_by result ≡ [] }
+        ensures original { result.original ≡ None }
+        ensures notes { HaveNone result.notes }
+        ensures hidden { result.wants_hidden ≡ wants_hidden }
+        ensures onsets { result.wants_onsets ≡ nat_lt 1 count }
+    {
+        let mut looker = Looker::new(alloc, wants_hidden);
+        looker.wants_onsets = count > 1;
+        looker
     }
 
     /// Takes in the data record of the original at hand, if it is another one than before: where it is wanted, the texts that the
@@ -104,7 +121,7 @@ impl Looker {
         Ok(())
     }
 
-    /// Notes where the export starts, and what else is told of what both files show between two times.
+    /// Notes where the export and its annotations start, and what else is told of what both files show between two times.
     fn note(
         &mut self,
         original: &FileReader,
@@ -116,6 +133,10 @@ impl Looker {
         ensures parts { self.new.parts ≡ self.old.parts }
         ensures notes { OnOk result (self.new.notes.hidden.items ≡ self.old.notes.hidden.items ++
             hidden_at self.old ((frame.entry.turn).setting.claim).now original.now) }
+        ensures onsets { OnOk result (self.new.part.onsets.items ≡ self.old.part.onsets.items ++
+            onsets_at self.old.part
+            (record { reader = export.entry; by = ((frame.entry.turn).setting.clock).export })) }
+        ensures wants { self.new.part.wants_onsets ≡ self.old.part.wants_onsets }
         ensures whole { self.new.is_whole ≡ self.old.is_whole }
     {
         let setting = frame.turn.setting;
@@ -124,8 +145,7 @@ impl Looker {
             reader: original,
             by: setting.clock.original,
         };
-        self.part.see(here, export, frame, within);
-        Ok(())
+        self.part.see(here, export, frame, within)
     }
 
     /// Begins with an export: nothing was counted yet of the channels of this frame.
@@ -135,22 +155,25 @@ impl Looker {
         ensures each { OnOk result (length self.new.counts.channels.items ≡ length (frame.entry.pairs).now) }
         ensures none { OnOk result ((files : TwoFiles) (t : ℤ) →
             AreCounts self.new.counts.channels.items frame.entry files t t) }
+        ensures onsets { OnOk result (self.new.part.onsets.items ≡ []) }
+        ensures wants { OnOk result (self.new.part.wants_onsets ≡ self.old.wants_onsets) }
         ensures parts { self.new.parts ≡ self.old.parts }
     {
         self.counts = Counts::new(self.alloc, frame)?;
-        self.part = PartSoFar::none();
+        self.part = PartSoFar::none(self.alloc, self.wants_onsets);
         Ok(())
     }
 
     /// Begins with an export whose samples aren't compared: nothing is counted of any channel.
     fn begin_with_none(&mut self)
         ensures counts { self.new.counts.channels.items ≡ [] }
+        ensures onsets { self.new.part.onsets.items ≡ [] }
         ensures parts { self.new.parts ≡ self.old.parts }
     {
         self.counts = Counts {
             channels: Vec::new(self.alloc),
         };
-        self.part = PartSoFar::none();
+        self.part = PartSoFar::none(self.alloc, self.wants_onsets);
     }
 
     /// Counts what both files show between two times, and notes in which data records the first and the last of each kind lie.
@@ -167,6 +190,10 @@ impl Looker {
         ensures each { length self.new.counts.channels.items ≡ length (frame.entry.pairs).now }
         ensures holds { HasSeenIn (AreCounts self.old.counts.channels.items)
             (AreCounts self.new.counts.channels.items) frame.entry original.now export.now within }
+        ensures onsets { self.new.is_whole ≡ true → self.new.part.onsets.items ≡ self.old.part.onsets.items ++
+            onsets_at self.old.part
+            (record { reader = export.entry; by = ((frame.entry.turn).setting.clock).export }) }
+        ensures wants { self.new.part.wants_onsets ≡ self.old.part.wants_onsets }
         ensures whole { self.new.is_whole ≡ true → self.old.is_whole ≡ true }
         ensures parts { self.new.parts ≡ self.old.parts }
     {
@@ -191,7 +218,10 @@ impl Looker {
         ensures notes { self.new.notes ≡ self.old.notes }
     {
         let counts = mem::replace(&mut self.counts.channels, Vec::new(self.alloc));
-        let so_far = mem::replace(&mut self.part, PartSoFar::none());
+        let so_far = mem::replace(
+            &mut self.part,
+            PartSoFar::none(self.alloc, self.wants_onsets),
+        );
         self.parts.push(ReadPart {
             header: export.into_header(),
             so_far,

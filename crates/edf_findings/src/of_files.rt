@@ -77,7 +77,7 @@ pub fn findings_of_parts<'c, O: Source, E: Source>(
     ensures stop { IfErr result (JudgeStopsOfAll O.Source E.Source original.old original.new parts.old
         parts.new wanted.entry.claim_text.now) }
 {
-    let mut looker = Looker::new(alloc, wanted.hidden);
+    let mut looker = Looker::of_parts(alloc, wanted.hidden, parts.len());
     let verdict = judge_parts_beside(alloc, original, parts, wanted.claim_text, &mut looker)?;
     let found = looker.findings(wanted.claim)?;
     Ok(CheckedParts { verdict, found })

@@ -1,11 +1,14 @@
 //! What is seen of one export while it is compared.
 
-ghost use Rattle.std.specs.Prelude.{◌≡◌, length, is_some, IfOk};
+ghost use Rattle.std.specs.Prelude.{◌≡◌, ◌++◌, [], count_by, if◌then◌else◌, length, is_some, IfOk, OnOk};
 ghost use Rattle.std.specs.List.{list_all};
+ghost use Rattle.std.specs.Ordering.{int_eq};
+ghost use Rattle.edf_stream.specs.Views.{notes_left};
 ghost use Rattle.edf_heads.specs.Comparisons.{AreSorted};
 ghost use Rattle.edf_findings.specs.Told.{AreTold};
-ghost use Rattle.edf_findings.specs.Exports.{channels_of, has_all_of, head_in, is_clean, keeps_between_in, moved_in, starts_of};
+ghost use Rattle.edf_findings.specs.Exports.{channels_of, has_all_of, head_in, is_clean, keeps_between_in, moved_in, onsets_of, starts_of};
 ghost use Rattle.edf_findings.specs.Found.{IsFoundIn};
+ghost use Rattle.edf_findings.specs.Gathered.{is_another, onset_by, onsets_at, onsets_by};
 
 use crate::samples::claimed::CountedLabels;
 use crate::samples::compared::ComparedChannel;
@@ -14,7 +17,7 @@ use crate::starts::Starts;
 use edf_claim::Claim;
 use edf_header::Header;
 use edf_pace::{ChannelCount, Frame, Pair, Window, pairs_of};
-use edf_stream::FileReader;
+use edf_stream::{Annotations, FileReader};
 use std::alloc::{AllocError, Global};
 
 /// What was seen so far of an export that is compared, but for the counts of its samples.
@@ -27,6 +30,10 @@ pub(crate) struct PartSoFar {
     begin_ps: Option<i128>,
     keeps_between: bool,
     moved_ps: i128,
+    /// Whether it is noted when its annotations begin.
+    wants_onsets: bool,
+    /// When they begin, in the order of the file, in picoseconds after the second at which the original starts.
+    onsets: Vec<i128>,
 }
 
 /// The earlier one of two times, of which each may be missing.
@@ -49,31 +56,79 @@ fn first_between(pairs: &[Pair], original: Stand<'_>, within: Window) -> Option<
     first
 }
 
+/// When an annotation begins that is moved by so much, as far as 128 bits reach.
+#[tactic(auto, unfolding(crate::specs::Gathered::onset_by))]
+fn moved_onset(moved_ps: i128, onset: i128) -> i128
+    ensures { result ≡ onset_by moved_ps onset }
+{
+    moved_ps.saturating_add(onset)
+}
+
 impl PartSoFar {
-    /// Nothing was seen of an export.
-    pub(crate) fn none() -> PartSoFar {
+    /// Nothing was seen of an export. Of its annotations it is noted when they begin, if that is wanted.
+    pub(crate) fn none(alloc: Global, wants_onsets: bool) -> PartSoFar
+        ensures onsets { result.onsets.items ≡ [] }
+        ensures wants { result.wants_onsets ≡ wants_onsets }
+    {
         PartSoFar {
             records: RecordCount::NONE,
             first_ps: None,
             begin_ps: None,
             keeps_between: false,
             moved_ps: 0,
+            wants_onsets,
+            onsets: Vec::new(alloc),
         }
     }
 
-    /// Takes in the data record of the export at hand, if it is another one than before.
-    fn take_record(&mut self, export: &FileReader) {
-        if !self.records.take_in(export) {
-            return;
+    /// Takes in when these annotations begin, which are to be moved by so much.
+    ///
+    /// The error is want of memory.
+    fn take_onsets(
+        &mut self,
+        moved_ps: i128,
+        annotations: Annotations<'_>,
+    ) -> Result<(), AllocError>
+        ensures onsets { OnOk result (self.new.onsets.items ≡
+            self.old.onsets.items ++ onsets_by moved_ps (notes_left annotations.entry)) }
+        ensures records { self.new.records ≡ self.old.records }
+        ensures wants { self.new.wants_onsets ≡ self.old.wants_onsets }
+    {
+        for note in annotations {
+            self.onsets.push(moved_onset(moved_ps, note.onset))?;
+        }
+        Ok(())
+    }
+
+    /// Takes in the data record of the export at hand, if it is another one than before: where it is wanted, when its annotations begin.
+    ///
+    /// The error is want of memory.
+    fn take_record(&mut self, export: Stand<'_>) -> Result<(), AllocError>
+        ensures onsets { OnOk result (self.new.onsets.items ≡
+            self.old.onsets.items ++ onsets_at self.old export.entry) }
+        ensures records { self.new.records.read ≡ if is_another self.old.records.read (export.entry.reader).now
+            then (export.entry.reader).now.read else self.old.records.read }
+        ensures wants { self.new.wants_onsets ≡ self.old.wants_onsets }
+    {
+        if !self.records.take_in(export.reader) {
+            return Ok(());
         }
         if self.begin_ps.is_none() {
-            self.begin_ps = Some(export.start_ps());
+            self.begin_ps = Some(export.reader.start_ps());
         }
+        if self.wants_onsets {
+            self.take_onsets(export.moved_ps(), export.reader.annotations())?;
+        }
+        Ok(())
     }
 
     /// Sees when the first sample of the original is taken that is kept between two times, where all are and none was seen so
     /// far.
-    fn see_first(&mut self, pairs: &[Pair], original: Stand<'_>, within: Window) {
+    fn see_first(&mut self, pairs: &[Pair], original: Stand<'_>, within: Window)
+        ensures onsets { self.new.onsets ≡ self.old.onsets }
+        ensures records { self.new.records ≡ self.old.records }
+        ensures wants { self.new.wants_onsets ≡ self.old.wants_onsets }
+    {
         if self.first_ps.is_some() || !original.has_begun_before(within.to.ps) {
             return;
         }
@@ -81,24 +136,34 @@ impl PartSoFar {
         self.keeps_between = self.keeps_between || self.first_ps.is_none();
     }
 
-    /// Sees when the export begins, and when the first sample is taken that is kept, of what both show between two times.
+    /// Sees when the export and its annotations begin, and when the first sample is taken that is kept, of what both show between two
+    /// times.
+    ///
+    /// The error is want of memory.
     pub(crate) fn see(
         &mut self,
         original: Stand<'_>,
         export: &FileReader,
         frame: Frame<'_>,
         within: Window,
-    ) {
+    ) -> Result<(), AllocError>
+        ensures onsets { OnOk result (self.new.onsets.items ≡ self.old.onsets.items ++
+            onsets_at self.old (record { reader = export.entry; by = ((frame.entry.turn).setting.clock).export })) }
+        ensures records { OnOk result (self.new.records.read ≡ if is_another self.old.records.read export.now
+            then export.now.read else self.old.records.read) }
+        ensures wants { self.new.wants_onsets ≡ self.old.wants_onsets }
+    {
         let setting = frame.turn.setting;
-        self.take_record(export);
-        if setting.claim.keeps_instant(within.from.ps, 1) {
-            self.see_first(frame.pairs, original, within);
-        }
         let there = Stand {
             reader: export,
             by: setting.clock.export,
         };
+        self.take_record(there)?;
+        if setting.claim.keeps_instant(within.from.ps, 1) {
+            self.see_first(frame.pairs, original, within);
+        }
         self.moved_ps = there.moved_ps();
+        Ok(())
     }
 
     /// Where the export starts; none where the original has no sample that is kept.
@@ -133,6 +198,7 @@ pub(crate) struct ComparedPart {
     starts: Option<Starts>,
     keeps_between: bool,
     moved_ps: i128,
+    onsets: Vec<i128>,
 }
 
 impl ComparedPart {
@@ -142,17 +208,18 @@ impl ComparedPart {
     fn of(
         alloc: Global,
         export: &Header,
-        so_far: &PartSoFar,
+        so_far: PartSoFar,
         counts: &[ChannelCount],
         under: Under<'_>,
     ) -> Result<ComparedPart, AllocError>
         requires sorted { AreSorted (under.claim).now.channels under.labels.now }
         requires counts { length counts.now ≡ length under.labels.now }
-        ensures { IfOk result (λ part. AreTold (under.entry.claim).now.channels under.entry.labels.now (record {
+        ensures told { IfOk result (λ part. AreTold (under.entry.claim).now.channels under.entry.labels.now (record {
           original = (under.entry.original).now;
           export = export.now;
           counts = counts.now;
         }) part.channels.items) }
+        ensures onsets { IfOk result (λ part. part.onsets ≡ so_far.onsets) }
     {
         let headers = (under.original, export);
         let pairs = pairs_of(alloc, under.original, export, under.labels)?;
@@ -162,11 +229,19 @@ impl ComparedPart {
             pairs: &pairs,
             counts,
         };
+        let starts = so_far.starts(headers, under.claim);
+        let PartSoFar {
+            keeps_between,
+            moved_ps,
+            onsets,
+            ..
+        } = so_far;
         Ok(ComparedPart {
             channels: counted.channels(alloc, under.claim)?,
-            starts: so_far.starts(headers, under.claim),
-            keeps_between: so_far.keeps_between,
-            moved_ps: so_far.moved_ps,
+            starts,
+            keeps_between,
+            moved_ps,
+            onsets,
         })
     }
 }
@@ -202,7 +277,7 @@ impl PartFindings {
                 compared: None,
             });
         }
-        let compared = ComparedPart::of(alloc, &header, &so_far, &counts, under)?;
+        let compared = ComparedPart::of(alloc, &header, so_far, &counts, under)?;
         Ok(PartFindings {
             header,
             compared: Some(compared),
@@ -255,6 +330,27 @@ impl PartFindings {
             Some(compared) => compared.starts,
             None => None,
         }
+    }
+
+    /// When each of its annotations begins that was noted, in the order of the file, in picoseconds after the second at which the original
+    /// starts. There is none where there is one export alone, and where it wasn't compared.
+    pub fn onsets(&self) -> &[i128]
+        ensures { result.now ≡ onsets_of self.entry.now }
+    {
+        match &self.compared {
+            Some(compared) => &compared.onsets,
+            None => &[],
+        }
+    }
+
+    /// How many of the noted ones begin at this time.
+    pub fn count_at(&self, onset: i128) -> usize
+        ensures { result ≡ count_by (λ t. int_eq t onset) (onsets_of self.now) }
+    {
+        self.onsets()
+            .iter()
+            .filter(|other| **other == onset)
+            .count()
     }
 
     /// Whether an interval was found that has no sample in a data record of the original in which it lies.

@@ -1,7 +1,7 @@
 //! Where a file stands that is read: its data record at hand, on the clock of the original.
 
 ghost use Rattle.std.specs.Prelude.{◌≡◌, if◌then◌else◌};
-ghost use Rattle.edf_findings.specs.Gathered.{is_another};
+ghost use Rattle.edf_findings.specs.Gathered.{is_another, moved_by};
 
 use crate::clock::start_of;
 use crate::record_time::RecordTime;
@@ -54,7 +54,9 @@ impl Stand<'_> {
     }
 
     /// What the times of the file are moved by, from the second on at which it starts.
-    pub(crate) fn moved_ps(self) -> i128 {
+    pub(crate) fn moved_ps(self) -> i128
+        ensures { result ≡ moved_by self.entry }
+    {
         start_of(self.reader.header()).saturating_add(self.by.ps)
     }
 

@@ -2,9 +2,9 @@
 
 use crate::differences::clocks::Clocks;
 use crate::differences::likeness::say_likeness;
+use crate::differences::parts_then::say_parts_then;
 use crate::words::annotations as words;
-use edf_claim::Claim;
-use edf_findings::{Notes, OneWay, OnlyInOne, one_way};
+use edf_findings::{Findings, Notes, OneWay, OnlyInOne, one_way};
 use edf_sentences::{NOT_LISTED, Piece, Text};
 use edf_stream::Note;
 use std::alloc::AllocError;
@@ -62,14 +62,16 @@ fn say_missing(
     say_others(text, missing.len())
 }
 
-/// Says which annotations the export has that aren't kept.
+/// Says which annotations the export has that aren't kept; of each that is listed, which of several exports have annotations at its
+/// time, and, where that is asked for, what it looks like.
 fn say_extra(
     text: &mut Text,
-    claim: &Claim,
-    notes: &Notes,
+    seen: &Findings<'_>,
     only: &OnlyInOne,
     clocks: Clocks,
+    has_likeness: bool,
 ) -> Result<(), AllocError> {
+    let notes = seen.notes();
     say_count(
         text,
         words::NOTE_EXTRA,
@@ -79,7 +81,10 @@ fn say_extra(
     for place in only.extra.iter().take(MOST_LISTED) {
         if let Some(note) = notes.exported.get(*place) {
             say_note(text, note, clocks)?;
-            say_likeness(text, claim, note, &notes.kept, &only.missing)?;
+            say_parts_then(text, seen, note.onset)?;
+            if has_likeness {
+                say_likeness(text, seen.claim(), note, &notes.kept, &only.missing)?;
+            }
         }
     }
     say_others(text, only.extra.len())
@@ -97,19 +102,24 @@ fn say_one_way(text: &mut Text, only: &OnlyInOne, way: OneWay) -> Result<(), All
     }
 }
 
-/// Says which annotations aren't as claimed.
+/// Says which annotations aren't as claimed. Where all of them differ in one way, those of several exports are listed all the same, with
+/// the exports.
 pub(crate) fn say_annotations(
     text: &mut Text,
-    claim: &Claim,
-    notes: &Notes,
+    seen: &Findings<'_>,
     only: &OnlyInOne,
     clocks: Clocks,
 ) -> Result<(), AllocError> {
+    let notes = seen.notes();
     if let Some(way) = one_way(text.alloc(), notes, only)? {
-        return say_one_way(text, only, way);
+        say_one_way(text, only, way)?;
+        if seen.others().is_empty() {
+            return Ok(());
+        }
+        return say_extra(text, seen, only, clocks, false);
     }
     say_missing(text, notes, &only.missing, clocks)?;
-    say_extra(text, claim, notes, only, clocks)?;
+    say_extra(text, seen, only, clocks, true)?;
     if !only.missing.is_empty() {
         return text.say(words::NOTES_ADVICE, &[]);
     }

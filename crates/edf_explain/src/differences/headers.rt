@@ -4,9 +4,11 @@ use crate::heads::Heads;
 use crate::words::files::{EXCHANGED, EXPORT_TWICE, ORIGINAL_TWICE};
 use crate::words::headers as words;
 use edf_fields::Which;
-use edf_findings::{Exchange, are_extremes_cut_off, exchange_of, has_subfield};
+use edf_findings::{
+    Exchange, Findings, PartFindings, are_extremes_cut_off, exchange_of, has_subfield,
+};
 use edf_header::Signal;
-use edf_heads::{ChannelIndex, HeadDifference, head_differences, is_anonymous};
+use edf_heads::{ChannelIndex, HeadDifference, is_anonymous};
 use edf_sentences::{Piece, Text};
 use edf_verdict::{SubfieldMismatch, TextField};
 use std::alloc::{AllocError, Global};
@@ -224,15 +226,20 @@ impl<'a> Heads<'a> {
 }
 
 /// Says how the header of an export isn't as claimed, and answers whether it isn't.
-pub(crate) fn say_heads(text: &mut Text, heads: Heads<'_>) -> Result<bool, AllocError> {
+pub(crate) fn say_heads(
+    text: &mut Text,
+    seen: &Findings<'_>,
+    part: &PartFindings,
+) -> Result<bool, AllocError> {
+    let heads = Heads::of(seen, part);
     if let Some(exchange) = exchange_of(heads.claim, heads.original, heads.export) {
         text.say(words_of(exchange), &[])?;
     }
     let alloc = text.alloc();
     let channels = BothChannels::of(alloc, heads)?;
-    let differences = head_differences(alloc, heads.original, heads.export, heads.claim)?;
-    let are_some = !differences.is_empty();
-    for difference in differences {
+    let broken = seen.broken_rules(alloc, part)?;
+    let are_some = !broken.is_empty();
+    for difference in broken {
         heads.say(text, &channels, difference)?;
     }
     Ok(are_some)

@@ -63,10 +63,36 @@ fn say_elsewhere(text: &mut Text, starts: &Starts, shifts: &TriedShifts) -> Resu
     shifts.say(text, starts)
 }
 
-/// Says where one of several exports starts, if it doesn't start as claimed.
-pub(crate) fn say_start_of_part(text: &mut Text, part: &PartFindings) -> Result<(), AllocError> {
+/// Whether one of several exports starts as claimed; not where the claim keeps no sample in its time.
+fn starts_as_claimed(part: &PartFindings) -> bool {
     match part.starts() {
-        Some(starts) if !starts.are_same() => {
+        Some(starts) => starts.are_same(),
+        None => false,
+    }
+}
+
+/// Whether each part in front of the one with this number starts as claimed. Where one doesn't, the first sample that is kept behind it may
+/// be one that it should have, so it isn't known where the parts behind it should start.
+fn are_starts_known(seen: &Findings<'_>, number: u16) -> bool {
+    let behind = usize::from(number.saturating_sub(1));
+    number == 0
+        || starts_as_claimed(seen.first())
+            && seen
+                .others()
+                .iter()
+                .take(behind)
+                .all(|part: &PartFindings| -> bool { starts_as_claimed(part) })
+}
+
+/// Says where one of several exports starts, if it is known where it should, and it doesn't start there.
+pub(crate) fn say_start_of_part(
+    text: &mut Text,
+    seen: &Findings<'_>,
+    number: u16,
+    part: &PartFindings,
+) -> Result<(), AllocError> {
+    match part.starts() {
+        Some(starts) if !starts.are_same() && are_starts_known(seen, number) => {
             say_difference(text, &starts)?;
             say_likeness(text, &starts)
         }

@@ -18,5 +18,10 @@ pub(crate) const PART_NOT_COMPARED: &str = "  Its samples weren't compared.";
 
 pub(crate) const NOTES_OF_ALL: &str = "The annotations of all parts together:";
 
+/// The number of the part, and how many annotations.
+pub(crate) const NOTE_THEN: &str = "    Part {0} has 1 annotation that begins at this time.";
+
+pub(crate) const NOTES_THEN: &str = "    Part {0} has {1} annotations that begin at this time.";
+
 pub(crate) const NOTES_OF_ALL_AS_CLAIMED: &str =
     "The annotations of all parts together were compared all the same. They are as claimed.";

@@ -17,7 +17,7 @@ returns-clause-found g c =
     let same : under.0 ≡ claim = one_claim c.args.wanted.claim_text.now under.0 claim under.1 c.args.wanted.says in
     let counted = subst
     (λ (t : ClaimValue). AreCountedOfAll g.O.Source g.E.Source c.args.original.now c.args.parts.now t true (looked_on [] (counted_by looker) (shown_by looker))) same
-    (subst (λ (before : List ExportCount). AreCountedOfAll g.O.Source g.E.Source c.args.original.now c.args.parts.now under.0 true (looked_on before (counted_by looker) (shown_by looker))) c.new-looker.ensures.counted under.2)
+    (subst (λ (before : List ExportCount). AreCountedOfAll g.O.Source g.E.Source c.args.original.now c.args.parts.now under.0 true (looked_on before (counted_by looker) (shown_by looker))) c.of_parts-looker.ensures.counted under.2)
     in
     if-some c.in_ok-found.found (λ found are. (looker, counted, are)) c.in_ok-found.ensures.found
 
@@ -25,7 +25,7 @@ pub returns-clause-some : goal.returns-clause-some
 returns-clause-some g c = λ ho he all.
     let looker = c.judge_parts_beside.new.onlooker in
     let under = c.in_ok-verdict.ensures.counted in
-    let counted = subst (λ (before : List ExportCount). AreCountedOfAll g.O.Source g.E.Source c.args.original.now c.args.parts.now under.0 true (looked_on before (counted_by looker) (shown_by looker))) c.new-looker.ensures.counted under.2 in
+    let counted = subst (λ (before : List ExportCount). AreCountedOfAll g.O.Source g.E.Source c.args.original.now c.args.parts.now under.0 true (looked_on before (counted_by looker) (shown_by looker))) c.of_parts-looker.ensures.counted under.2 in
     let some = subst (λ (n : ℕ). 0 < n) (sym (length-map c.args.parts.now g.E.Source.left)) c.requires.some in
     let there = has-some looker (g.O.Source.left c.args.original.now) (map g.E.Source.left c.args.parts.now) under.0 some (counted refl ho he all) in
     subst IsTrue (sym c.in_ok-found.ensures.some) there
