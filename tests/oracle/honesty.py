@@ -13,7 +13,8 @@ elsewhere, where it starts and is claimed to; of each channel how many samples a
 last of them, when they stand by both clocks, in which data records, and their values; how many of how many are changed where nearly
 all are; which annotations are missing and too many, and how many aren't listed; in which data record a file breaks off. And each
 shift, list of channels and end of an interval that a sentence names is put into the claim, `check` is run again, and its line is
-compared with what was said: one that is said to be better has to be, and one that isn't has not to be.
+compared with what was said: one that is said to be better has to be, and one that isn't has not to be. Which ones are tried follows
+from how the files were made, too: one that helps has to be named.
 
 What disagrees is said, of twenty exports at the most. The last line counts the exports that passed and failed.
 """
@@ -74,6 +75,8 @@ OF_HEADS = [
     "THEY_ARE_AS_CLAIMED",
 ]
 IS_OF_HEADS = re.compile("|".join(".*".join(re.escape(part) for part in re.split(r"\{\d\}", SENTENCES[name])) for name in OF_HEADS))
+OF_CHANNELS = re.compile(r"^NO [345] ")
+MOST_TRIES = 3
 FAULT = re.compile(r"^The (original|export) can't be judged\. Its first fault is: (.*)\.$")
 UNITS = {"day": DAY * PS, "hour": 3600 * PS, "minute": 60 * PS}
 
@@ -108,6 +111,17 @@ def rank(line):
     number = int(line.split()[1])
     at = re.search(r" at (-?\d+) ps", line)
     return number, int(at[1]) if at else 0
+
+
+def tried_shifts(claim, later):
+    """The shifts that are tried of an export that starts so much later than claimed: the one with which it would start as claimed, one
+    that is whole days from the claimed one, none, and the claimed one turned."""
+    days = (abs(later) + DAY * PS // 2) // (DAY * PS) * (1 if later > 0 else -1)
+    fitting, found = [claim.shift + later // PS] if later % PS == 0 else [], []
+    for number in [*fitting, claim.shift + days * DAY, 0, -claim.shift]:
+        if number != claim.shift and number not in found and later:
+            found.append(number)
+    return found[:MOST_TRIES]
 
 
 # ---- how the files are made
@@ -203,24 +217,32 @@ def texts_otherwise(export):
     export.texts[label, column] = text
 
 
+def named_otherwise(export, name):
+    """Another name of the patient."""
+    export.edits.append((field("patient"), f"MCH-0234567 F 02-MAY-1951 {name}"))
+
+
 def name_otherwise(export, claim):
     """A name that is another one, that is hidden where the claim doesn't hide it, or shown where it does."""
     way = choose.randrange(3)
     if way == 2:
         claim.anonymous = ["name"]
     else:
-        export.edits.append((field("patient"), f"MCH-0234567 F 02-MAY-1951 {['Haagse_Mary', 'X'][way]}"))
+        named_otherwise(export, ["Haagse_Mary", "X"][way])
 
 
 def words_in_header(export):
     export.free = " Haagse"
 
 
+def lost_from(made):
+    """How many bytes a file loses at its end that is broken off behind its header."""
+    return choose.randint(1, made.records() * made.record_size())
+
+
 def lost_bytes(made):
     """How many bytes a file loses at its end, mostly none."""
-    if choose.random() < 0.97:
-        return 0
-    return choose.randint(1, made.records() * made.record_size())
+    return 0 if choose.random() < 0.97 else lost_from(made)
 
 
 def note_at_end(original, export, claim):
@@ -229,8 +251,8 @@ def note_at_end(original, export, claim):
         made.notes = [*made.notes, note]
 
 
-def case():
-    """An original, an export that is wrong, and the claim."""
+def case(counts=(1, 1, 2, 3)):
+    """An original, an export that is wrong in so many ways as one of these numbers says, and the claim."""
     original, length = night()
     keep, moved = intervals(length), shift()
     claim = Claimed(sorted(original.channels), keep, moved, choose.sample(TEXTS, choose.choice([0, 0, 1])))
@@ -243,7 +265,7 @@ def case():
     ways = [lambda: moved_otherwise(export, claim), lambda: cut_otherwise(export, claim, length), lambda: values_otherwise(export),
             lambda: notes_otherwise(export), lambda: channels_otherwise(export, claim), lambda: note_at_end(original, export, claim),
             lambda: texts_otherwise(export), lambda: name_otherwise(export, claim), lambda: words_in_header(export)]
-    for way in choose.sample(ways, choose.choice([1, 1, 2, 3])):
+    for way in choose.sample(ways, choose.choice(counts)):
         way()
     return original, export, claim
 
@@ -313,6 +335,11 @@ def common(original, export, claim):
     return [label for label in claim.labels if label in original.channels and label in export.channels]
 
 
+def begins_at(export, claim):
+    """When the first data record of an export begins by the claim, in picoseconds after the second at which the original starts."""
+    return (export.begin() + export.shift - claim.shift) * PS + export.fraction
+
+
 def wrong_starts(said, original, export, claim):
     """What is wrong with where the export starts."""
     kept = [at for label in common(original, export, claim) for at in original.samples(label) if claim.keeps(at)]
@@ -320,7 +347,7 @@ def wrong_starts(said, original, export, claim):
         return None
     claimed = clock(min(kept), claim.shift)
     exported = clock(export.begin() * PS + export.fraction, export.shift)
-    later = (export.begin() + export.shift - claim.shift) * PS + export.fraction - min(kept)
+    later = begins_at(export, claim) - min(kept)
     want = (abs(later), "earlier" if later < 0 else "later", exported, claimed) if later else None
     return None if said.starts == want else f"it starts {want}; said: {said.starts}"
 
@@ -451,6 +478,12 @@ def wrong_notes(said, original, export, claim, shift):
     return None if said.notes == want else f"of annotations it {want}; said: {said.notes}"
 
 
+def truncated(made, lost):
+    """The fault of a file that has lost so many bytes of its data records."""
+    size = made.record_size()
+    return f"Truncated at record {(made.records() * size - lost) // size}"
+
+
 class Honesty:
     """The program in a folder of its own, and how many explanations passed and failed."""
 
@@ -488,10 +521,55 @@ class Honesty:
                 return f"with {name} the answer is {given}, and {line} without; is it said to be better: {want is not None}"
         return None
 
+    def answer(self, files, text):
+        """The line of a check under a claim that was changed."""
+        return self.run("check", *files, self.path("tried.toml", text.encode()))[1].rstrip("\n")
+
+    def wrong_shifts(self, said, claim, files, line, starts):
+        """What is wrong with which other shifts are tried, which of them is named, and with which one all else is worked out: `starts` is
+        by how much the export starts later than claimed, and when the first sample is taken that is kept."""
+        tried, best = tried_shifts(claim, starts[0]) if re.match("NO 1[01] ", line) else [], None
+        for number in tried:
+            given = self.answer(files, claim.text(number))
+            if rank(given) > rank(best[1] if best else line) and begins_behind(given, starts[1]):
+                best = number, given
+            if given.startswith("YES "):
+                break
+        reckoned = claim.shift if tried else said.reckoned
+        if best and not best[1].startswith("NO 10 "):
+            reckoned = best[0] if best[1].startswith("NO 11 ") else None
+        want = ([best], [], reckoned) if best else ([], tried, reckoned)
+        have = said.named, said.tried, said.reckoned
+        return None if have == want else f"of shifts, and of the one that is reckoned with, it is {want}; said: {have}"
+
+    def wrong_channels(self, said, claim, files, line, both):
+        """What is wrong with which other channels are named: those that the original and the first export have, where they help."""
+        given = self.answer(files, claim.text(labels=sorted(both))) if both and OF_CHANNELS.match(line) else line
+        want = [both] if rank(given) > rank(line) and not OF_CHANNELS.match(given) else []
+        named = [set(labels) for labels, _ in said.channels]
+        return None if named == want else f"of channels it is {want}, with {given}; said: {said.channels}"
+
+    def wrong_ends(self, said, claim, files, line, extra):
+        """What is wrong with which other end of an interval is named: the first at which an annotation begins that is too many, where
+        it helps, and no shift was tried."""
+        is_tried = line.startswith("NO 11 ") and not said.named and not said.tried
+        ends = [last for onset, *_ in in_order(extra.elements()) for _, last in claim.keep if is_tried and onset == last * PS]
+        given = self.answer(files, claim.text(end=ends[0] * PS)) if ends else line
+        want = [(ends[0], ends[0], given)] if rank(given) > rank(line) else []
+        return None if said.ends == want else f"of ends it is {want}; said: {said.ends}"
+
+    def wrong_tries(self, said, claim, files, line, made):
+        """What is wrong with what is tried of an original, the first export and all annotations: `made` has these, and where the first one
+        starts."""
+        original, first, exported, starts = made
+        both = original.channels.keys() & first.channels.keys()
+        extra = notes_apart(original, exported, claim, claim.shift)[1]
+        return (self.wrong_shifts(said, claim, files, line, starts) or self.wrong_channels(said, claim, files, line, both)
+                or self.wrong_ends(said, claim, files, line, extra))
+
     def wrong_fault(self, files, lost, said):
         """What is wrong with the faults that are said of files that break off, and that nothing else is said."""
-        want = {side: f"Truncated at record {(made.records() * made.record_size() - count) // made.record_size()}"
-                for side, made, count in zip(("original", "export"), files, lost) if count}
+        want = {side: truncated(made, count) for side, made, count in zip(("original", "export"), files, lost) if count}
         if said.faults != want:
             return f"the faults are {want}; said: {said.faults}"
         is_more = (said.counts or said.notes or said.heads or said.starts or said.named or said.channels or said.ends or said.tried
@@ -527,7 +605,10 @@ class Honesty:
         if status == 1 and (wrong := wrong_starts(said, original, export, claim)):
             return wrong
         kept = [at for label in common(original, export, claim) for at in original.samples(label) if claim.keeps(at)]
-        if wrong := self.wrong_remedies(said, claim, files, line, min(kept, default=0)):
+        first = min(kept, default=0)
+        starts = begins_at(export, claim) - first if kept else 0, first
+        if wrong := (self.wrong_remedies(said, claim, files, line, first)
+                     or self.wrong_tries(said, claim, files, line, (original, export, export, starts))):
             return wrong
         if said.has_yes():
             return f"samples or annotations are listed: {said.counts} {said.notes}" if said.counts or said.notes else None
