@@ -10,11 +10,11 @@ second of the part in front of it; or files are broken off, or have bytes behind
 broken, and whether its samples were compared all the same; by how much it starts elsewhere, where it starts and is claimed to, and of
 each of its channels how many samples are missing, too many and changed, the first and the last of them, and how many of how many are
 changed where nearly all are; of all parts together which annotations are missing and too many, and of each of those that are too many
-how many annotations of each part begin when it does. What is missing in front of a part counts for it, and behind the last part for
-that one. Of a part that begins before the one in front of it ends, and of those behind it, the headers alone are compared, and no
-annotations are. Where files can't be judged, the first fault of each is said, and nothing else. Each change of the claim that is named
-is put into the claim, `check-parts` is run again, and its line is compared with what was said. Which ones are tried follows from how
-the files were made, too: one that helps has to be named.
+how many annotations of each part begin when it does, and of each of those that are missing which part covers its time. What is missing
+in front of a part counts for it, and behind the last part for that one. Of a part that begins before the one in front of it ends, and
+of those behind it, the headers alone are compared, and no annotations are. Where files can't be judged, the first fault of each is
+said, and nothing else. Each change of the claim that is named is put into the claim, `check-parts` is run again, and its line is
+compared with what was said. Which ones are tried follows from how the files were made, too: one that helps has to be named.
 
 What disagrees is said, of twenty exports at the most. The last line counts the exports that passed and failed.
 """
@@ -23,6 +23,7 @@ import os
 import re
 import sys
 import tempfile
+from decimal import Decimal
 
 from tests.edf import seconds
 from tests.explain.sentences import OF_PARTS, filled, sentences
@@ -34,6 +35,7 @@ from tests.oracle.honesty import (
 
 PART = re.compile(r"^Part (\d+):$")
 THEN = re.compile(r"^    Part \d+ has \d+ annotations? that begins? at this time\.$")
+WITHIN = re.compile(r"^    Part \d+ covers this time\.$")
 SENTENCES = sentences([OF_PARTS])
 TOGETHER, NOTES_AS_CLAIMED = SENTENCES["NOTES_OF_ALL"], SENTENCES["NOTES_OF_ALL_AS_CLAIMED"]
 AS_CLAIMED = SENTENCES["PART_AS_CLAIMED"]
@@ -290,18 +292,29 @@ def lines_then(at, parts, shift):
             yield filled(SENTENCES["NOTES_THEN"], [str(number), str(count)])
 
 
+def lines_within(at, parts, shift):
+    """What has to be said of an annotation that is missing at a time, in seconds as a sentence says it: the part in whose time it
+    begins, from the begin of its first data record and to the end of its last one. Of one part alone nothing is said."""
+    ps = round(Decimal(at) * PS)
+    for number, part in enumerate(parts if len(parts) > 1 else []):
+        if begin_of(part, shift) <= ps < end_of(part, shift):
+            yield filled(SENTENCES["NOTE_WITHIN"], [str(number)])
+
+
 def wrong_then(lines, parts, shift):
-    """What is wrong with how many annotations of each part are said to begin when one does that is too many."""
-    want, is_extra = [], False
+    """What is wrong with the parts that are named behind an annotation: behind one that is too many, how many annotations of each begin
+    when it does; behind one that is missing, the part that covers its time."""
+    want, lines_behind = [], None
     for line in lines:
-        if THEN.match(line):
+        if THEN.match(line) or WITHIN.match(line):
             continue
         want.append(line)
-        if any(pattern.match(line) for pattern in NOTES.values()):
-            is_extra = bool(NOTES["has"].match(line))
-        if is_extra and (found := LISTED.match(line)):
-            want += lines_then(found[1], parts, shift)
-    return None if want == lines else f"of the parts that have annotations too many it lacks {want}; said: {lines}"
+        for kind, named in (("lacks", lines_within), ("has", lines_then)):
+            if NOTES[kind].match(line):
+                lines_behind = named
+        if lines_behind and (found := LISTED.match(line)):
+            want += lines_behind(found[1], parts, shift)
+    return None if want == lines else f"behind annotations parts are to be named so: {want}; said: {lines}"
 
 
 def wrong_each(sections, original, parts, claim, shift):
@@ -408,8 +421,12 @@ class HonestParts(Honesty):
         if not is_compared:
             return f"annotations are compared behind an early part: {sections.together}" if sections.together is not None else None
         together, exported = sections.together or [], with_all_notes(parts)
-        self.seen["annotations of which it is said which part has them"] += any(THEN.match(line) for line in together)
         of_notes = Said("\n".join(together))
+        missing = of_notes.listed.get("lacks", ([], 0))[0]
+        self.seen["annotations of which it is said which part has them"] += any(THEN.match(line) for line in together)
+        self.seen["missing annotations in the time of a part"] += any(WITHIN.match(line) for line in together)
+        self.seen["missing annotations in the time of no part"] += len(parts) > 1 and any(
+            not list(lines_within(at, parts, shift)) for at, *_ in missing)
         if wrong := wrong_notes(of_notes, original, exported, claim, shift) or wrong_then(together, parts, shift):
             return wrong
         if of_notes.is_one_way and len(parts) > 1:
