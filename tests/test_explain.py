@@ -19,7 +19,7 @@ from tests.cases import claim_texts, rows_of
 from tests.cases.small_night import BOTH
 from tests.explain import mistakes, rows, sentences, tries
 from tests.harness import ANSWERS, NIGHT, TOP, ProgramCase, each, run, slug
-from tests.long_nights import Night, other_values, write
+from tests.long_nights import Night, other_values, remarks, write
 from tests.recordings import claim_of
 
 # How many checks of a table are tried.
@@ -214,6 +214,11 @@ class Memory(ProgramCase):
     MORE = 512
     LENGTHS = 300, 3000
 
+    # Of several exports it is noted, too, when each annotation begins: so many bytes for each at the most. The night for that has so
+    # many annotations a second that the check holds more than what begins it (tests/held.py).
+    MORE_OF_EACH = 32
+    NOTES_A_SECOND = 40
+
     @classmethod
     def setUpClass(cls):
         super().setUpClass()
@@ -224,18 +229,44 @@ class Memory(ProgramCase):
             for name, made in files.items():
                 write(cls.room / f"{name}-{seconds}.edf", made)
             other_values(cls.room / f"original-{seconds}.edf", cls.room / f"changed-{seconds}.edf", night)
-            labels = ", ".join(f'"{label}"' for label in night.labels())
-            cls.claims[seconds] = cls.file(f"{seconds}.toml", f'format = 1\nchannels = [{labels}]\nkeep = [{{ from = "0", to = "{seconds}" }}]\n')
+            cls.claims[seconds] = cls.claim_of_all(night)
 
-    def held(self, command, name, seconds):
+    @classmethod
+    def claim_of_all(cls, night):
+        """A claim that keeps all of a night."""
+        labels = ", ".join(f'"{label}"' for label in night.labels())
+        keep = f'keep = [{{ from = "0", to = "{night.seconds}" }}]'
+        return cls.file(f"{night.seconds}.toml", f"format = 1\nchannels = [{labels}]\n{keep}\n")
+
+    def held(self, command, *files):
         """How much memory a command holds at the most, which answers No."""
-        files = self.room / f"original-{seconds}.edf", self.room / f"{name}-{seconds}.edf", self.claims[seconds]
         here = {**os.environ, "PYTHONPATH": str(TOP)}
         ran = run(sys.executable, "-B", "-m", "tests.held", self.room / "held", self.program, command, *files, cwd=NIGHT, env=here)
         self.assertEqual(ran.status, 1, f"{ran}\nwanted: status 1")
         return int((self.room / "held").read_text(encoding="utf-8"))
 
+    def noted_halves(self, seconds):
+        """A night with many annotations, and its halves, all values of the second of which are other ones; and how many annotations
+        the halves have."""
+        texts = ["Apnea"] * (self.NOTES_A_SECOND * seconds)
+        night = Night(seconds, rate=10, lane=1024, notes=remarks(texts, seconds))
+        first = dataclasses.replace(night, seconds=seconds // 2, notes=remarks(texts[::2], seconds // 2))
+        second = dataclasses.replace(first, first=seconds // 2)
+        paths = [self.room / f"{name}.edf" for name in ("noted", "first-half", "same-half", "second-half")]
+        for path, made in zip(paths, (night, first, second)):
+            write(path, made)
+        other_values(paths[2], paths[3], second)
+        return paths[0], [paths[1], paths[3]], len(texts)
+
     @each((f"{name}_in_{seconds}_s", name, seconds) for name in ("changed", "half", "twice") for seconds in (300, 3000))
     def beside_the_check(self, name, seconds):
-        check, explanation = self.held("check", name, seconds), self.held("explain", name, seconds)
+        files = self.room / f"original-{seconds}.edf", self.room / f"{name}-{seconds}.edf", self.claims[seconds]
+        check, explanation = self.held("check", *files), self.held("explain", *files)
         self.assertLess(explanation, check + self.MORE, f"so many KB are held, and {check} by the check")
+
+    def test_two_halves_beside_the_check(self):
+        original, halves, count = self.noted_halves(3000)
+        files = original, self.claims[3000], *halves
+        check, explanation = self.held("check-parts", *files), self.held("explain-parts", *files)
+        most = check + self.MORE + self.MORE_OF_EACH * count // 1024
+        self.assertLess(explanation, most, f"so many KB are held, and {check} by the check")

@@ -8,8 +8,8 @@
 # hours (219 MB) and one of 80 hours. Of the first of these nights a receipt is measured, too, beside the check and the
 # digests of both files, and a draft and an explanation. One of 8 hours follows that is handed out in 8 files, and nights
 # that are large in one respect, each of 100 to 250 MB; and explanations of a night of 8 hours beside the check, where one
-# value differs, all do, or all channels have other rates (tools/speed/explained.py). What is written to a temporary folder
-# has three times a night's size, and for the last of these 1.4 GB.
+# value differs, all do, or all channels have other rates, or it is handed out in two halves (tools/speed/explained.py). What is
+# written to a temporary folder has three times a night's size, and for the last of these 1.6 GB.
 set -euo pipefail
 
 if [ "$#" -lt 1 ] || [ ! -x "$1" ]; then
