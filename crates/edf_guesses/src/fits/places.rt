@@ -7,7 +7,7 @@ use std::alloc::{AllocError, Global};
 use std::mem;
 
 /// How many places are looked into at the most at a time, and how many are found. Where there are so many, channels stand still,
-/// and no place is told.
+/// and no other one is looked for.
 const MOST_PLACES: usize = 1_024;
 
 /// Whether samples stand at a place, as far as data records were read.
