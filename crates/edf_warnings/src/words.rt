@@ -61,5 +61,4 @@ pub(crate) const CHANNEL_TEXTS: &str =
 /// The label, the sensor and the filter.
 pub(crate) const CHANNEL_TEXT: &str = "  channel {0}, sensor {1}, filter {2}";
 
-pub(crate) const READ_THE_TEXTS: &str =
-    "Read all texts of the export with edfclaim notes and edfclaim show.";
+pub(crate) const READ_THE_TEXTS: &str = "Read all texts of the export with edfclaim read.";
