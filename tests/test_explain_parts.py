@@ -10,7 +10,7 @@ import unittest
 
 from tests.cases import rows_of
 from tests.cases.parts import AT_TWO, FIRST, JUST_EARLY, KEPT_TIME, SECOND, SECONDS, SINGLE, changed, second
-from tests.cases.small_night import BOTH, LANE_0, LANE_1, LANE_3, NIGHT, VALUES_0, VALUES_1, VALUES_2, VALUES_3
+from tests.cases.small_night import BOTH, LANE_0, LANE_1, LANE_2, LANE_3, NIGHT, VALUES_0, VALUES_1, VALUES_2, VALUES_3
 from tests.edf import field, lane, signal, values
 from tests.explain import sentences, tries
 from tests.harness import ProgramCase, each
@@ -57,6 +57,12 @@ NOTES_AS_CLAIMED = "The annotations of all parts together were compared all the 
 def behind(number, words):
     """What is said of a part: its name, and the words behind it."""
     return f"Part {number}:\n{words}"
+
+
+def starts(at, length, way, belongs):
+    """What is said of where a part behind the first one starts."""
+    return (f"Its first samples are at {at}, {length} {way} than the first one that the claim keeps behind the part in front of it, "
+            f"which belongs at {belongs}.\n")
 
 
 # The exports, the status, what has to be said, and what not.
@@ -109,7 +115,7 @@ ROWS = [
         1,
         [
             behind(0, AS_CLAIMED),
-            behind(1, "The export starts 1 s later than claimed"),
+            behind(1, starts("2002-03-02 22:00:03", "1 s", "later", "2002-03-02 22:00:02")),
             'Channel "EEG Fpz-Cz": 4 samples that the claim keeps are missing',
             'Channel "ECG": 2 samples that the claim keeps are missing',
         ],
@@ -123,8 +129,9 @@ ROWS = [
             behind(0, AS_CLAIMED),
             behind(1, 'Channel "EEG Fpz-Cz": 4 samples that the claim keeps are missing'),
             "The annotations of all parts together:\nThe export lacks 1 annotation that the claim keeps",
+            "  at 3 s (",
         ],
-        ["starts 1 s"],
+        ["Its first samples", "covers this time"],
     ),
     (
         "first_half_alone",
@@ -137,8 +144,9 @@ ROWS = [
         "annotations_missing_and_a_value",
         [FIRST_WITHOUT_NOTE, OTHER_SECOND],
         1,
-        [behind(0, AS_CLAIMED), behind(1, TWO_OF_ECG), "The annotations of all parts together:", '"Lights off"'],
-        [],
+        [behind(0, AS_CLAIMED), behind(1, TWO_OF_ECG), "The annotations of all parts together:",
+         'text "Lights off"\n    Part 0 covers this time.\nRun '],
+        ["Part 1 covers", "at this time"],
     ),
     (
         "an_annotation_more_in_the_second_half",
@@ -200,6 +208,30 @@ ROWS = [
         1,
         ['text "Snoring"\n    The original has no such annotation'],
         ["at this time."],
+    ),
+    (
+        "an_annotation_missing_in_each_half",
+        [FIRST_WITHOUT_NOTE, second(last_lane=lane(40, b"+1\x14\x14\x00"))],
+        1,
+        ['text "Lights off"\n    Part 0 covers this time.\n', 'text "Apnea"\n    Part 1 covers this time.\n'],
+        ["at this time"],
+    ),
+    (
+        "an_annotation_a_second_early_in_the_second_half",
+        [FIRST, second(last_lane=lane(40, b"+1\x14\x14\x00+0\x14Apnea\x14\x00"))],
+        1,
+        [
+            '  at 3 s (', 'text "Apnea"\n    Part 1 covers this time.\n',
+            '  at 2 s (', 'text "Apnea"\n    Part 1 has 1 annotation that begins at this time.\n',
+        ],
+        ["Part 0 covers", "Part 0 has"],
+    ),
+    (
+        "an_annotation_missing_in_one_export",
+        [recording(parts=[VALUES_0, KEPT_TIME, VALUES_1, LANE_1, VALUES_2, LANE_2, VALUES_3, LANE_3], base=NIGHT)],
+        1,
+        ['text "Lights off"\nRun '],
+        ["covers this time"],
     ),
     ("halves_exchanged", [SECOND, FIRST], 1, [EARLY, "put the parts in the order of time"], [behind(1, AS_CLAIMED), "together"]),
     ("a_hair_early", [FIRST, JUST_EARLY], 1, [behind(0, AS_CLAIMED), behind(1, EARLY)], ["together"]),
@@ -267,6 +299,7 @@ class Rows(ExplainPartsCase):
     def test_each_sentence_is_said_and_isn_t(self):
         """Of each sentence on several exports there is a row of which it is said, and one of which it isn't."""
         texts = [self.explained(bytes_of(NIGHT), ALL_OF_IT, [bytes_of(export) for export in row[1]])[0] for row in ROWS]
+        texts += [self.explained(row[1].bytes(), row[3].text(), [export.bytes() for export in row[2]])[0] for row in TRIES]
         for name, said in sentences.sentences([sentences.OF_PARTS]).items():
             # but the name of a part, which each row with an answer on parts has
             kinds = {bool(sentences.pattern(said).search(text)) for text in texts}
@@ -282,7 +315,9 @@ class Rows(ExplainPartsCase):
 
 HALVES = [tries.NIGHT.cut(10, 40), tries.NIGHT.cut(40, 70)]
 MOVED = [half.but(shift=-tries.DAY) for half in HALVES]
-LAST_NOTE = (70 * PS, None, "Lights on")
+SCORED = tries.NIGHT.but(notes=[(20 * PS, 3 * PS, "Apnea"), (50 * PS, 2 * PS, "Arousal")])
+SCORED_HALVES = [SCORED.cut(10, 40), SCORED.cut(40, 70)]
+LAST_NOTE, SNORING = (70 * PS, None, "Lights on"), (60 * PS, None, "Snoring")
 ENDED = tries.NIGHT.but(stretches=[(0, 70)], notes=[*tries.NIGHT.notes, LAST_NOTE])
 ENDED_HALVES = [HALVES[0], ENDED.cut(40, 71).but(stretches=[(40, 70)])]
 YES = "the answer would be YES parts 2 channels 2 samples 360 annotations"
@@ -311,18 +346,52 @@ TRIES = [
      ["With shift", "another value"]),
     ("the_right_shift_and_another_value", tries.NIGHT, [MOVED[0], MOVED[1].changed("ECG", 100, -1)], tries.of_ten(),
      [behind(0, AS_CLAIMED), behind(1, 'Channel "ECG": 1 sample has another value')], TRIED),
-    # the first half ends before the time that the claim keeps, so nobody knows where the second one should start
+    # the first half ends before the time that the claim keeps, so the first sample that is kept comes behind it
     ("halves_an_hour_early", tries.NIGHT, [half.but(shift=-tries.DAY - 3600) for half in HALVES], tries.of_ten(),
      [behind(0, 'Channel "EEG Fpz-Cz": 120 samples of the export are ones that the claim doesn\'t keep'),
-      behind(1, 'Channel "EEG Fpz-Cz": 240 samples that the claim keeps are missing in the export.')],
+      behind(1, starts("2002-03-01 21:00:40", "59 minutes 30 s", "earlier", "2002-03-01 22:00:10")
+             + 'Channel "EEG Fpz-Cz": 240 samples that the claim keeps are missing')],
      ["The export starts", *TRIED]),
-    # the first part ends where the second interval has begun, so what it lacks there isn't where the second part should start
+    # the first part ends where the second interval has begun, so what it lacks there may be its own
     ("two_intervals_later", tries.NIGHT,
      [tries.NIGHT.cut(10, 40, 15 - tries.DAY), tries.NIGHT.cut(50, 70, 15 - tries.DAY).changed("ECG", 110, -1)],
      Claimed(tries.BOTH, [(10, 40), (50, 70)], -tries.DAY),
      [f"With shift = {15 - tries.DAY} the first difference would be NO 10", behind(0, "The export starts 15 s later than claimed"),
-      behind(1, 'Channel "')],
+      behind(1, starts("2002-03-01 22:01:05", "10 s", "later", "2002-03-01 22:00:55") + 'Channel "')],
      ["The export starts 10 s later"]),
+    # which part should have what is missing between two isn't known, so it isn't said that the second one starts elsewhere than claimed
+    ("a_first_part_that_ends_early", tries.NIGHT, [tries.NIGHT.cut(10, 35), tries.NIGHT.cut(50, 70)],
+     Claimed(tries.BOTH, [(10, 40), (50, 70)]),
+     [behind(0, AS_CLAIMED),
+      behind(1, starts("2002-03-02 22:00:50", "15 s", "later", "2002-03-02 22:00:35")
+             + 'Channel "EEG Fpz-Cz": 20 samples that the claim keeps are missing in the export.\n')],
+     ["The export starts", "should be at", *TRIED, *tries.LIKELY]),
+    ("a_second_part_that_begins_early", tries.NIGHT, [tries.NIGHT.cut(10, 40), tries.NIGHT.cut(45, 70)],
+     Claimed(tries.BOTH, [(10, 40), (50, 70)]),
+     [behind(0, AS_CLAIMED),
+      behind(1, starts("2002-03-02 22:00:45", "5 s", "earlier", "2002-03-02 22:00:50")
+             + 'Channel "EEG Fpz-Cz": 20 samples of the export are ones that the claim doesn\'t keep, ')],
+     ["The export starts", "should be at", *TRIED]),
+    ("a_second_part_of_three_that_begins_late", tries.NIGHT,
+     [tries.NIGHT.cut(10, 30), tries.NIGHT.cut(35, 50), tries.NIGHT.cut(50, 70)], Claimed(tries.BOTH, [(10, 70)]),
+     [behind(0, AS_CLAIMED), behind(1, starts("2002-03-02 22:00:35", "5 s", "later", "2002-03-02 22:00:30")), behind(2, AS_CLAIMED)],
+     ["The export starts", *TRIED]),
+    # the second half alone wasn't moved
+    ("a_forgotten_shift_of_the_second_half", tries.NIGHT, [HALVES[0].but(shift=-10), HALVES[1]], tries.of_ten(-10),
+     [behind(0, AS_CLAIMED), behind(1, starts("2002-03-02 22:00:40", "10 s", "later", "2002-03-02 22:00:30") + "It starts as if nothing had been moved")],
+     ["The export starts", *TRIED]),
+    ("lost_durations_in_both_halves", SCORED, [half.but(notes=[(at, None, text) for at, _, text in half.notes]) for half in SCORED_HALVES],
+     Claimed(tries.BOTH, [(10, 70)]),
+     ["All 2 annotations that differ only lack their durations",
+      "Export again with durations.\nThe export has 2 annotations that the claim doesn't keep:\n",
+      'text "Apnea"\n    Part 0 has 1 annotation that begins at this time.\n',
+      'text "Arousal"\n    Part 1 has 1 annotation that begins at this time.\n'],
+     ["covers this time", *TRIED]),
+    ("a_forgotten_shift_and_an_annotation_more", tries.NIGHT, [HALVES[0], HALVES[1].but(notes=[*HALVES[1].notes, SNORING])], tries.of_ten(),
+     [f"With shift = 0 the first difference would be NO 11 annotation extra at {60 * PS} ps duration none text \"Snoring\".",
+      "What follows is worked out with shift = 0.", '  at 60 s (',
+      'text "Snoring"\n    Part 1 has 1 annotation that begins at this time.\n    The original has no such annotation'],
+     ["Part 0 has", "covers this time"]),
     ("a_misspelt_channel", tries.NIGHT, HALVES, Claimed(["EEG Fpz-Cz", "EGC"], [(10, 70)]),
      [f'With channels = ["EEG Fpz-Cz", "ECG"] {YES} 1.'], ["With shift", "With to", "were tried"]),
     ("a_channel_of_another_name", tries.NIGHT, HALVES, Claimed(["EEG Fpz-Cz", "Blood pressure"], [(10, 70)]),

@@ -7,8 +7,9 @@ is said, and the same number makes the same files), wrong in up to three ways, a
 nights one part alone has another header or another shift; parts are exchanged, one is handed in twice, or one begins in the last
 second of the part in front of it; or files are broken off, or have bytes behind their ends. PROGRAM runs `check-parts` and
 `explain-parts` on each. What the sentences state is recounted from how the files were made: of each part which rules of its header are
-broken, and whether its samples were compared all the same; by how much it starts elsewhere, where it starts and is claimed to, and of
-each of its channels how many samples are missing, too many and changed, the first and the last of them, and how many of how many are
+broken, and whether its samples were compared all the same; by how much it starts elsewhere than claimed or, behind the first part, than
+the first sample that is kept behind the part in front of it, and when; and of each of its channels how many samples are missing, too
+many and changed, the first and the last of them, and how many of how many are
 changed where nearly all are; of all parts together which annotations are missing and too many, and of each of those that are too many
 how many annotations of each part begin when it does, and of each of those that are missing which part covers its time. What is missing
 in front of a part counts for it, and behind the last part for that one. Of a part that begins before the one in front of it ends, and
@@ -29,8 +30,8 @@ from tests.edf import seconds
 from tests.explain.sentences import OF_PARTS, filled, sentences
 from tests.made import PS, apart, notes_apart
 from tests.oracle.honesty import (
-    DAY, LISTED, NOTES, SENTENCES as OF_ONE, Honesty, Said, case, choose, clock, common, head_lines, lines_of, lost_from, named_otherwise,
-    texts_otherwise, truncated, words_in_header, wrong_head_lines, wrong_listed, wrong_nearly_all, wrong_notes, wrong_spot,
+    DAY, LISTED, NOTES, SENTENCES as OF_ONE, Honesty, Said, case, choose, clock, common, head_lines, length, lines_of, lost_from,
+    named_otherwise, texts_otherwise, truncated, words_in_header, wrong_head_lines, wrong_listed, wrong_nearly_all, wrong_notes, wrong_spot,
 )
 
 PART = re.compile(r"^Part (\d+):$")
@@ -41,6 +42,8 @@ TOGETHER, NOTES_AS_CLAIMED = SENTENCES["NOTES_OF_ALL"], SENTENCES["NOTES_OF_ALL_
 AS_CLAIMED = SENTENCES["PART_AS_CLAIMED"]
 COMPARED = [SENTENCES["PART_COMPARED"], SENTENCES["PART_WITHOUT_CHANNELS"]]
 UNCOMPARED = [SENTENCES["PART_EARLY"], SENTENCES["PART_NOT_COMPARED"]]
+STARTS_BEHIND = re.compile(r"^Its first samples are at (\S+ \S+), (.*) (earlier|later) than the first one that the claim keeps "
+                           r"behind the part in front of it, which belongs at (\S+ \S+)\.$")
 EARLY_LINE = re.compile(r"^NO 12 part (\d+) starts early$")
 
 
@@ -201,17 +204,25 @@ def with_all_notes(parts):
     return first.but(notes=notes)
 
 
-def wrong_start(said, original, parts, number, claim, shift):
-    """What is wrong with where a part starts, by this shift. Behind a part that doesn't start as claimed, or in whose time nothing is
-    kept, it isn't known where one should start."""
-    for place, part in enumerate(parts[:number + 1]):
-        kept = kept_in(original, parts, place, claim, shift)
-        later = begin_of(part, shift) - min(kept, default=0)
-        if not kept or later and place < number:
-            return None if said.starts is None else f"it isn't known where it should start; said: {said.starts}"
-    exported = clock(part.begin() * PS + part.fraction, part.shift)
-    want = (abs(later), "earlier" if later < 0 else "later", exported, clock(min(kept), shift)) if later else None
-    return None if said.starts == want else f"it starts {want}; said: {said.starts}"
+def starts_behind(lines):
+    """By how much a part is said to start elsewhere than the first sample that is kept behind the part in front of it, and when."""
+    found = [STARTS_BEHIND.match(line) for line in lines]
+    return [(length(spot[2]), spot[3], spot[1], spot[4]) for spot in found if spot]
+
+
+def wrong_start(lines, original, parts, number, claim, shift):
+    """What is wrong with where a part starts, by this shift: the first one as by the claim, and each other one beside the first sample
+    that is kept behind the part in front of it."""
+    part, kept = parts[number], kept_in(original, parts, number, claim, shift)
+    later, want = begin_of(part, shift) - min(kept, default=0), []
+    if kept and later:
+        exported = clock(part.begin() * PS + part.fraction, part.shift)
+        want = [(abs(later), "earlier" if later < 0 else "later", exported, clock(min(kept), shift))]
+    starts = Said("\n".join(lines)).starts
+    of_first, behind = [starts] if starts else [], starts_behind(lines)
+    if of_first + behind == want and not (behind if number == 0 else of_first):
+        return None
+    return f"it starts {want}; said: {of_first} {behind}"
 
 
 def wrong_heads(lines, said, original, part, claim):
@@ -231,7 +242,7 @@ def wrong_part(lines, original, parts, number, claim, shift):
     """What is wrong with what is said of a part, by this shift."""
     part, said = parts[number], Said("\n".join(lines))
     span, counts = span_of(parts, number, shift), []
-    if wrong := wrong_start(said, original, parts, number, claim, shift) or wrong_heads(lines, said, original, part, claim):
+    if wrong := wrong_start(lines, original, parts, number, claim, shift) or wrong_heads(lines, said, original, part, claim):
         return wrong
     for label in common(original, part, claim):
         found_apart = apart(original, part, claim, label, shift)
@@ -257,7 +268,7 @@ def wrong_uncompared(lines, original, part, claim, is_first):
     of_part = [line for line in lines if line in [*COMPARED, *UNCOMPARED, AS_CLAIMED]]
     if of_part != lines[-1:] or of_part != [UNCOMPARED[0 if is_first else 1]]:
         return f"it isn't compared; said: {lines}"
-    if said.counts or said.starts or said.nearly_all or said.odd:
+    if said.counts or said.starts or starts_behind(lines) or said.nearly_all or said.odd:
         return f"its samples aren't compared, and said is: {lines}"
     return wrong_head_lines(said, lines_of(head_lines(original, part, claim)))
 
@@ -328,7 +339,8 @@ def wrong_each(sections, original, parts, claim, shift):
         if wrong := wrong_part(lines, original, parts, number, claim, shift):
             return f"part {number}: {wrong}"
         of_part = Said("\n".join(lines))
-        is_as_claimed = not any(head_lines(original, parts[number], claim)) and not of_part.counts and of_part.starts is None
+        starts = of_part.starts or starts_behind(lines)
+        is_as_claimed = not any(head_lines(original, parts[number], claim)) and not of_part.counts and not starts
         if of_part.odd or (AS_CLAIMED in lines) != is_as_claimed or any(line in UNCOMPARED for line in lines):
             return f"is part {number} as claimed: {is_as_claimed}; said, and what is odd: {lines} {of_part.odd}"
     return None
@@ -408,7 +420,7 @@ class HonestParts(Honesty):
         if said.has_yes():
             if sections.together or any(Said("\n".join(lines)).counts for lines in sections.parts):
                 return "samples or annotations are listed"
-            return wrong_start(Said("\n".join(sections.parts[0])), original, parts, 0, claim, claim.shift)
+            return wrong_start(sections.parts[0], original, parts, 0, claim, claim.shift)
         shift = claim.shift if said.reckoned is None else said.reckoned
         return wrong_each(sections, original, parts, claim, shift) or self.wrong_together(sections, original, parts, claim, shift)
 

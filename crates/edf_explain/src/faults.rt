@@ -1,5 +1,8 @@
 //! A file that can't be judged: its fault, and what to do.
 
+ghost use Rattle.std.specs.Prelude.{◌≡◌, IfOk, IsTrue};
+ghost use Rattle.edf_stream.specs.Faults.{file_fault};
+
 use crate::front_source::FrontSource;
 use crate::limits::{MOST_ANNOTATIONS, MOST_RECORD_BYTES};
 use crate::words::faults as words;
@@ -77,7 +80,10 @@ pub(crate) fn say_fault(
 /// The first fault of an export; none where it conforms.
 ///
 /// The error is want of memory, or a failure of the source.
-fn fault_of_export<S: Source>(alloc: Global, source: &mut S) -> Result<Option<Fault>, CheckStop> {
+fn fault_of_export<S: Source>(alloc: Global, source: &mut S) -> Result<Option<Fault>, CheckStop>
+    ensures { IfOk result (λ fault. IsTrue (S.is_honest source.old) →
+        file_fault (S.left source.old) ≡ fault) }
+{
     match conform(alloc, source) {
         Ok(_) => Ok(None),
         Err(Stop::Fault(fault)) => Ok(Some(fault)),
@@ -93,10 +99,13 @@ pub(crate) fn fault_of_part<S: Source>(
     alloc: Global,
     source: &mut S,
     number: u16,
-) -> Result<Option<Fault>, PartsRunStop> {
+) -> Result<Option<Fault>, PartsRunStop>
+    ensures { IfOk result (λ fault. IsTrue (S.is_honest source.old) →
+        file_fault (S.left source.old) ≡ fault) }
+{
     match conform(alloc, source) {
         Ok(_) => Ok(None),
-        Err(Stop::Fault(fault)) => Ok(Some(fault)),
+        Err(Stop::Fault(first)) => Ok(Some(first)),
         Err(Stop::OutOfMemory) => Err(PartsRunStop::OutOfMemory),
         Err(Stop::ReadFailed) => Err(PartsRunStop::ReadFailed(PartSide::Part(number))),
     }

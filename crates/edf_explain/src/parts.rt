@@ -109,7 +109,7 @@ fn say_samples_of_part(
     number: u16,
     part: &PartFindings,
 ) -> Result<(), AllocError> {
-    say_start_of_part(text, seen, number, part)?;
+    say_start_of_part(text, number, part)?;
     let clocks = Clocks::of(seen.original_header(), part);
     say_samples(text, seen.claim().channels(), part.channels(), clocks)
 }
@@ -279,7 +279,7 @@ fn say_seen<R: PartsRecordings>(
     say_shifts_of_parts(text, &seen, &shifts)?;
     if shifts.has_yes() {
         say_part_name(text, 0)?;
-        say_start_of_part(text, &seen, 0, seen.first())?;
+        say_start_of_part(text, 0, seen.first())?;
         say_behind(text, parts, &seen)?;
         return Ok(());
     }

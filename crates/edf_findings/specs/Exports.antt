@@ -2,6 +2,7 @@
 use Rattle.std.specs.Prelude.{◌==◌, ◌&&◌, ℕ, ℤ, pos, Bool, false, List, [], length, slice_get, Option, None, Some, option_and_then}
 use Rattle.edf_claim.specs.ClaimValues.{ClaimValue}
 use Rattle.edf_header.specs.Heads.{Head}
+use Rattle.edf_findings.specs.Noting.{lasts_over}
 use Rattle.edf_findings.specs.declared.findings.Findings.{Findings}
 use Rattle.edf_findings.specs.declared.part.ComparedPart.{ComparedPart}
 use Rattle.edf_findings.specs.declared.part.PartFindings.{PartFindings}
@@ -28,12 +29,17 @@ starts_of part = option_and_then (λ (compared : ComparedPart). compared.starts)
 -- when the annotations begin of an export that was compared, as far as that is noted
 abbrev pub onsets_in : Option ComparedPart → List ℤ
 onsets_in None = []
-onsets_in (Some part) = part.onsets.items
+onsets_in (Some part) = (part.noted).onsets
 
 abbrev pub onsets_of : PartFindings → List ℤ
 onsets_of part = onsets_in part.compared
 
--- how many these are
+-- such an export has begun at a time, and isn't over
+abbrev pub covers_in : Option ComparedPart → ℤ → Bool
+covers_in None at = false
+covers_in (Some part) at = lasts_over (part.noted).time at
+
+-- how many of these begins there are
 abbrev pub count_onsets : PartFindings → ℕ
 count_onsets part = length (onsets_of part)
 

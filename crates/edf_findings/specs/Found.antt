@@ -15,7 +15,6 @@ use Rattle.edf_findings.specs.declared.looker.Looker.{Looker}
 use Rattle.edf_findings.specs.declared.notes.both.Notes.{Notes}
 use Rattle.edf_findings.specs.declared.part.PartFindings.{PartFindings}
 use Rattle.edf_findings.specs.declared.part.ReadPart.{ReadPart}
-use Rattle.edf_findings.specs.Exports.{onsets_of}
 use Rattle.edf_findings.specs.Told.{AreTold, Seen}
 use Rattle.edf_pace.specs.walk.Watching.{ExportCount, WholeShown}
 use Rattle.edf_stream.specs.Conforming.{Conforms}
@@ -26,13 +25,13 @@ abbrev pub seen_in : Head → ReadPart → Seen
 seen_in h part = record { original = h; export = part.header; counts = part.counts.items }
 
 -- of an export that was read this is found: where something was counted of each label, it is told of the claimed channels that both files have;
--- else nothing is told of any channel; and it is told when its annotations begin, as far as that was noted
+-- else nothing is told of any channel; and what was noted of its data records is handed on
 pub record IsFoundIn (claim : ClaimValue) (labels : List (Bor (List ℕ))) (h : Head) (part : ReadPart) (found : PartFindings) : Type 0 where
   pub header : found.header ≡ part.header
   pub uncompared : length part.counts.items ≢ length labels → found.compared ≡ None
   pub channels : length part.counts.items ≡ length labels
       → MatchOption found.compared ⊥ (λ compared. AreTold claim.channels labels (seen_in h part) compared.channels.items)
-  pub onsets : length part.counts.items ≡ length labels → onsets_of found ≡ part.so_far.onsets.items
+  pub noted : length part.counts.items ≡ length labels → MatchOption found.compared ⊥ (λ compared. compared.noted ≡ part.so_far.noted)
 
 -- of each of these exports
 abbrev pub AreFoundIn : ClaimValue → List (Bor (List ℕ)) → Head → List ReadPart → List PartFindings → Type 0

@@ -1,6 +1,8 @@
 pub mod Told
 pub mod Found
 pub mod Exports
+pub mod Times
+pub mod Noting
 pub mod Kinds
 pub mod Gathered
 pub mod Shifts

@@ -89,7 +89,7 @@ impl<'a> Findings<'a> {
         head_differences(alloc, &self.original, part.header(), self.claim)
     }
 
-    /// Whether it was noted of as many annotations when they begin as all exports have.
+    /// Whether as many begins were noted as all exports have annotations. Each data record is noted once at the most, so none lacks then.
     pub fn has_all_onsets(&self) -> bool
         ensures { IsTrue result ↔ (sum_by count_onsets self.now.parts.items ≡
             length self.now.notes.exported.items) }

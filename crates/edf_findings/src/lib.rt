@@ -8,6 +8,7 @@ mod heads;
 pub mod laws;
 mod limits;
 mod looker;
+mod noted;
 mod notes;
 mod of_files;
 mod part;

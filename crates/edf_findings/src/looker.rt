@@ -4,7 +4,8 @@ ghost use Rattle.std.specs.Prelude.{◌≡◌, ◌&&◌, ◌++◌, ◌∷◌, []
 ghost use Rattle.edf_claim.specs.KeepsReading.{IsUncut};
 ghost use Rattle.edf_heads.specs.Comparisons.{AreSorted};
 ghost use Rattle.edf_findings.specs.Found.{AreFoundBy, AreFoundIn, counted_by, shown_by};
-ghost use Rattle.edf_findings.specs.Gathered.{HaveNone, hidden_at, onsets_at};
+ghost use Rattle.edf_findings.specs.Gathered.{HaveNone, hidden_at};
+ghost use Rattle.edf_findings.specs.Noting.{noted_with, nothing_noted, stand_in};
 ghost use Rattle.edf_pace.specs.walk.Counting.{AreCounts};
 ghost use Rattle.edf_pace.specs.walk.Pairs.{IsFrame};
 ghost use Rattle.edf_pace.specs.walk.Watching.{HasSeenIn, TwoFiles};
@@ -107,6 +108,7 @@ impl Looker {
         ensures counts { self.new.counts ≡ self.old.counts }
         ensures parts { self.new.parts ≡ self.old.parts }
         ensures part { self.new.part ≡ self.old.part }
+        ensures wants { self.new.wants_onsets ≡ self.old.wants_onsets }
         ensures whole { self.new.is_whole ≡ self.old.is_whole }
         ensures notes { OnOk result (self.new.notes.hidden.items ≡
             self.old.notes.hidden.items ++ hidden_at self.old claim.now original.now) }
@@ -121,7 +123,7 @@ impl Looker {
         Ok(())
     }
 
-    /// Notes where the export and its annotations start, and what else is told of what both files show between two times.
+    /// Notes when the export begins and ends, and its annotations, and what else is told of what both files show between two times.
     fn note(
         &mut self,
         original: &FileReader,
@@ -133,10 +135,9 @@ impl Looker {
         ensures parts { self.new.parts ≡ self.old.parts }
         ensures notes { OnOk result (self.new.notes.hidden.items ≡ self.old.notes.hidden.items ++
             hidden_at self.old ((frame.entry.turn).setting.claim).now original.now) }
-        ensures onsets { OnOk result (self.new.part.onsets.items ≡ self.old.part.onsets.items ++
-            onsets_at self.old.part
-            (record { reader = export.entry; by = ((frame.entry.turn).setting.clock).export })) }
-        ensures wants { self.new.part.wants_onsets ≡ self.old.part.wants_onsets }
+        ensures noted { OnOk result (self.new.part.noted ≡
+            noted_with (stand_in frame.entry export.entry) self.old.part.noted) }
+        ensures wants { self.new.wants_onsets ≡ self.old.wants_onsets }
         ensures whole { self.new.is_whole ≡ self.old.is_whole }
     {
         let setting = frame.turn.setting;
@@ -155,8 +156,8 @@ impl Looker {
         ensures each { OnOk result (length self.new.counts.channels.items ≡ length (frame.entry.pairs).now) }
         ensures none { OnOk result ((files : TwoFiles) (t : ℤ) →
             AreCounts self.new.counts.channels.items frame.entry files t t) }
-        ensures onsets { OnOk result (self.new.part.onsets.items ≡ []) }
-        ensures wants { OnOk result (self.new.part.wants_onsets ≡ self.old.wants_onsets) }
+        ensures noted { OnOk result (self.new.part.noted ≡ nothing_noted self.old.wants_onsets) }
+        ensures wants { self.new.wants_onsets ≡ self.old.wants_onsets }
         ensures parts { self.new.parts ≡ self.old.parts }
     {
         self.counts = Counts::new(self.alloc, frame)?;
@@ -167,7 +168,8 @@ impl Looker {
     /// Begins with an export whose samples aren't compared: nothing is counted of any channel.
     fn begin_with_none(&mut self)
         ensures counts { self.new.counts.channels.items ≡ [] }
-        ensures onsets { self.new.part.onsets.items ≡ [] }
+        ensures noted { self.new.part.noted ≡ nothing_noted self.old.wants_onsets }
+        ensures wants { self.new.wants_onsets ≡ self.old.wants_onsets }
         ensures parts { self.new.parts ≡ self.old.parts }
     {
         self.counts = Counts {
@@ -190,10 +192,9 @@ impl Looker {
         ensures each { length self.new.counts.channels.items ≡ length (frame.entry.pairs).now }
         ensures holds { HasSeenIn (AreCounts self.old.counts.channels.items)
             (AreCounts self.new.counts.channels.items) frame.entry original.now export.now within }
-        ensures onsets { self.new.is_whole ≡ true → self.new.part.onsets.items ≡ self.old.part.onsets.items ++
-            onsets_at self.old.part
-            (record { reader = export.entry; by = ((frame.entry.turn).setting.clock).export }) }
-        ensures wants { self.new.part.wants_onsets ≡ self.old.part.wants_onsets }
+        ensures noted { self.new.is_whole ≡ true → self.new.part.noted ≡
+            noted_with (stand_in frame.entry export.entry) self.old.part.noted }
+        ensures wants { self.new.wants_onsets ≡ self.old.wants_onsets }
         ensures whole { self.new.is_whole ≡ true → self.old.is_whole ≡ true }
         ensures parts { self.new.parts ≡ self.old.parts }
     {
@@ -215,6 +216,7 @@ impl Looker {
           so_far = self.old.part;
           counts = self.old.counts.channels;
         } ∷ [])) }
+        ensures wants { self.new.wants_onsets ≡ self.old.wants_onsets }
         ensures notes { self.new.notes ≡ self.old.notes }
     {
         let counts = mem::replace(&mut self.counts.channels, Vec::new(self.alloc));

@@ -1,39 +1,35 @@
 //! What is seen of one export while it is compared.
 
-ghost use Rattle.std.specs.Prelude.{◌≡◌, ◌++◌, [], count_by, if◌then◌else◌, length, is_some, IfOk, OnOk};
+ghost use Rattle.std.specs.Prelude.{◌≡◌, count_by, length, is_some, IfOk, OnOk};
 ghost use Rattle.std.specs.List.{list_all};
 ghost use Rattle.std.specs.Ordering.{int_eq};
-ghost use Rattle.edf_stream.specs.Views.{notes_left};
 ghost use Rattle.edf_heads.specs.Comparisons.{AreSorted};
 ghost use Rattle.edf_findings.specs.Told.{AreTold};
-ghost use Rattle.edf_findings.specs.Exports.{channels_of, has_all_of, head_in, is_clean, keeps_between_in, moved_in, onsets_of, starts_of};
+ghost use Rattle.edf_findings.specs.Exports.{channels_of, covers_in, has_all_of, head_in, is_clean, keeps_between_in, moved_in, onsets_of, starts_of};
 ghost use Rattle.edf_findings.specs.Found.{IsFoundIn};
-ghost use Rattle.edf_findings.specs.Gathered.{is_another, onset_by, onsets_at, onsets_by};
+ghost use Rattle.edf_findings.specs.Noting.{noted_with, nothing_noted, stand_in};
 
+use crate::noted::Noted;
 use crate::samples::claimed::CountedLabels;
 use crate::samples::compared::ComparedChannel;
-use crate::stand::{RecordCount, Stand};
+use crate::stand::Stand;
 use crate::starts::Starts;
 use edf_claim::Claim;
 use edf_header::Header;
 use edf_pace::{ChannelCount, Frame, Pair, Window, pairs_of};
-use edf_stream::{Annotations, FileReader};
+use edf_stream::FileReader;
 use std::alloc::{AllocError, Global};
 
 /// What was seen so far of an export that is compared, but for the counts of its samples.
 #[derive(Drop)]
 pub(crate) struct PartSoFar {
-    records: RecordCount,
+    noted: Noted,
     /// When the first sample is taken that is kept.
     first_ps: Option<i128>,
     /// When the first data record starts, as the export has it.
     begin_ps: Option<i128>,
     keeps_between: bool,
     moved_ps: i128,
-    /// Whether it is noted when its annotations begin.
-    wants_onsets: bool,
-    /// When they begin, in the order of the file, in picoseconds after the second at which the original starts.
-    onsets: Vec<i128>,
 }
 
 /// The earlier one of two times, of which each may be missing.
@@ -56,78 +52,24 @@ fn first_between(pairs: &[Pair], original: Stand<'_>, within: Window) -> Option<
     first
 }
 
-/// When an annotation begins that is moved by so much, as far as 128 bits reach.
-#[tactic(auto, unfolding(crate::specs::Gathered::onset_by))]
-fn moved_onset(moved_ps: i128, onset: i128) -> i128
-    ensures { result ≡ onset_by moved_ps onset }
-{
-    moved_ps.saturating_add(onset)
-}
-
 impl PartSoFar {
     /// Nothing was seen of an export. Of its annotations it is noted when they begin, if that is wanted.
     pub(crate) fn none(alloc: Global, wants_onsets: bool) -> PartSoFar
-        ensures onsets { result.onsets.items ≡ [] }
-        ensures wants { result.wants_onsets ≡ wants_onsets }
+        ensures { result.noted ≡ nothing_noted wants_onsets }
     {
         PartSoFar {
-            records: RecordCount::NONE,
+            noted: Noted::none(alloc, wants_onsets),
             first_ps: None,
             begin_ps: None,
             keeps_between: false,
             moved_ps: 0,
-            wants_onsets,
-            onsets: Vec::new(alloc),
         }
-    }
-
-    /// Takes in when these annotations begin, which are to be moved by so much.
-    ///
-    /// The error is want of memory.
-    fn take_onsets(
-        &mut self,
-        moved_ps: i128,
-        annotations: Annotations<'_>,
-    ) -> Result<(), AllocError>
-        ensures onsets { OnOk result (self.new.onsets.items ≡
-            self.old.onsets.items ++ onsets_by moved_ps (notes_left annotations.entry)) }
-        ensures records { self.new.records ≡ self.old.records }
-        ensures wants { self.new.wants_onsets ≡ self.old.wants_onsets }
-    {
-        for note in annotations {
-            self.onsets.push(moved_onset(moved_ps, note.onset))?;
-        }
-        Ok(())
-    }
-
-    /// Takes in the data record of the export at hand, if it is another one than before: where it is wanted, when its annotations begin.
-    ///
-    /// The error is want of memory.
-    fn take_record(&mut self, export: Stand<'_>) -> Result<(), AllocError>
-        ensures onsets { OnOk result (self.new.onsets.items ≡
-            self.old.onsets.items ++ onsets_at self.old export.entry) }
-        ensures records { self.new.records.read ≡ if is_another self.old.records.read (export.entry.reader).now
-            then (export.entry.reader).now.read else self.old.records.read }
-        ensures wants { self.new.wants_onsets ≡ self.old.wants_onsets }
-    {
-        if !self.records.take_in(export.reader) {
-            return Ok(());
-        }
-        if self.begin_ps.is_none() {
-            self.begin_ps = Some(export.reader.start_ps());
-        }
-        if self.wants_onsets {
-            self.take_onsets(export.moved_ps(), export.reader.annotations())?;
-        }
-        Ok(())
     }
 
     /// Sees when the first sample of the original is taken that is kept between two times, where all are and none was seen so
     /// far.
     fn see_first(&mut self, pairs: &[Pair], original: Stand<'_>, within: Window)
-        ensures onsets { self.new.onsets ≡ self.old.onsets }
-        ensures records { self.new.records ≡ self.old.records }
-        ensures wants { self.new.wants_onsets ≡ self.old.wants_onsets }
+        ensures { self.new.noted ≡ self.old.noted }
     {
         if self.first_ps.is_some() || !original.has_begun_before(within.to.ps) {
             return;
@@ -136,8 +78,8 @@ impl PartSoFar {
         self.keeps_between = self.keeps_between || self.first_ps.is_none();
     }
 
-    /// Sees when the export and its annotations begin, and when the first sample is taken that is kept, of what both show between two
-    /// times.
+    /// Sees when the export begins and ends, and its annotations, and when the first sample is taken that is kept, of what both show
+    /// between two times.
     ///
     /// The error is want of memory.
     pub(crate) fn see(
@@ -147,18 +89,18 @@ impl PartSoFar {
         frame: Frame<'_>,
         within: Window,
     ) -> Result<(), AllocError>
-        ensures onsets { OnOk result (self.new.onsets.items ≡ self.old.onsets.items ++
-            onsets_at self.old (record { reader = export.entry; by = ((frame.entry.turn).setting.clock).export })) }
-        ensures records { OnOk result (self.new.records.read ≡ if is_another self.old.records.read export.now
-            then export.now.read else self.old.records.read) }
-        ensures wants { self.new.wants_onsets ≡ self.old.wants_onsets }
+        ensures { OnOk result (self.new.noted ≡
+            noted_with (stand_in frame.entry export.entry) self.old.noted) }
     {
         let setting = frame.turn.setting;
         let there = Stand {
             reader: export,
             by: setting.clock.export,
         };
-        self.take_record(there)?;
+        if self.begin_ps.is_none() && export.has_current() {
+            self.begin_ps = Some(export.start_ps());
+        }
+        self.noted.take_record(there)?;
         if setting.claim.keeps_instant(within.from.ps, 1) {
             self.see_first(frame.pairs, original, within);
         }
@@ -198,7 +140,7 @@ pub(crate) struct ComparedPart {
     starts: Option<Starts>,
     keeps_between: bool,
     moved_ps: i128,
-    onsets: Vec<i128>,
+    noted: Noted,
 }
 
 impl ComparedPart {
@@ -219,7 +161,7 @@ impl ComparedPart {
           export = export.now;
           counts = counts.now;
         }) part.channels.items) }
-        ensures onsets { IfOk result (λ part. part.onsets ≡ so_far.onsets) }
+        ensures noted { IfOk result (λ part. part.noted ≡ so_far.noted) }
     {
         let headers = (under.original, export);
         let pairs = pairs_of(alloc, under.original, export, under.labels)?;
@@ -233,7 +175,7 @@ impl ComparedPart {
         let PartSoFar {
             keeps_between,
             moved_ps,
-            onsets,
+            noted,
             ..
         } = so_far;
         Ok(ComparedPart {
@@ -241,7 +183,7 @@ impl ComparedPart {
             starts,
             keeps_between,
             moved_ps,
-            onsets,
+            noted,
         })
     }
 }
@@ -338,7 +280,7 @@ impl PartFindings {
         ensures { result.now ≡ onsets_of self.entry.now }
     {
         match &self.compared {
-            Some(compared) => &compared.onsets,
+            Some(compared) => compared.noted.onsets(),
             None => &[],
         }
     }
@@ -351,6 +293,17 @@ impl PartFindings {
             .iter()
             .filter(|other| **other == onset)
             .count()
+    }
+
+    /// Whether it had begun at a time, and wasn't over: from the begin of its first data record, and before the end of its last. The time is
+    /// one in picoseconds after the second at which the original starts. It is so at none where it wasn't compared.
+    pub fn covers(&self, at_ps: i128) -> bool
+        ensures { result ≡ covers_in self.now.compared at_ps }
+    {
+        match &self.compared {
+            Some(compared) => compared.noted.covers(at_ps),
+            None => false,
+        }
     }
 
     /// Whether an interval was found that has no sample in a data record of the original in which it lies.

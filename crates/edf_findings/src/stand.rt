@@ -1,7 +1,7 @@
 //! Where a file stands that is read: its data record at hand, on the clock of the original.
 
-ghost use Rattle.std.specs.Prelude.{◌≡◌, if◌then◌else◌};
-ghost use Rattle.edf_findings.specs.Gathered.{is_another, moved_by};
+ghost use Rattle.std.specs.Prelude.{◌≡◌, ◌<◌, ◌^◌, if◌then◌else◌, option_map, unsigned_abs};
+ghost use Rattle.edf_findings.specs.Times.{is_another, joined, offset_of, time_at_hand};
 
 use crate::clock::start_of;
 use crate::record_time::RecordTime;
@@ -42,22 +42,32 @@ pub(crate) struct Stand<'a> {
 
 impl Stand<'_> {
     /// The time of the data record at hand.
-    fn time(self) -> Option<RecordTime> {
+    fn time(self) -> Option<RecordTime>
+        ensures { result ≡ time_at_hand self.entry }
+    {
         if !self.reader.has_current() {
             return None;
         }
         let from_ps = begin_ps_of(self.reader, self.by);
         Some(RecordTime {
             from_ps,
-            to_ps: from_ps.saturating_add(self.reader.header().duration_ps()),
+            to_ps: from_ps + self.reader.header().duration_ps(),
         })
+    }
+
+    /// The time of the data record at hand and of those in front of it, if there are any.
+    pub(crate) fn time_behind(self, front: Option<RecordTime>) -> Option<RecordTime>
+        ensures { result ≡ option_map (joined front) (time_at_hand self.entry) }
+    {
+        Some(self.time()?.behind(front))
     }
 
     /// What the times of the file are moved by, from the second on at which it starts.
     pub(crate) fn moved_ps(self) -> i128
-        ensures { result ≡ moved_by self.entry }
+        ensures value { result ≡ offset_of self.entry }
+        ensures small { unsigned_abs result < 2 ^ 81 }
     {
-        start_of(self.reader.header()).saturating_add(self.by.ps)
+        start_of(self.reader.header()) + self.by.ps
     }
 
     /// Whether a data record is at hand that begins before a time.

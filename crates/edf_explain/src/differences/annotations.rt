@@ -2,9 +2,9 @@
 
 use crate::differences::clocks::Clocks;
 use crate::differences::likeness::say_likeness;
-use crate::differences::parts_then::say_parts_then;
+use crate::differences::parts_then::{say_part_within, say_parts_then};
 use crate::words::annotations as words;
-use edf_findings::{Findings, Notes, OneWay, OnlyInOne, one_way};
+use edf_findings::{Findings, OneWay, OnlyInOne, one_way};
 use edf_sentences::{NOT_LISTED, Piece, Text};
 use edf_stream::Note;
 use std::alloc::AllocError;
@@ -41,10 +41,10 @@ fn say_others(text: &mut Text, count: usize) -> Result<(), AllocError> {
     }
 }
 
-/// Says which annotations the export lacks.
+/// Says which annotations the export lacks; of each that is listed, which of several exports covers its time.
 fn say_missing(
     text: &mut Text,
-    notes: &Notes,
+    seen: &Findings<'_>,
     missing: &[usize],
     clocks: Clocks,
 ) -> Result<(), AllocError> {
@@ -55,8 +55,9 @@ fn say_missing(
         missing.len(),
     )?;
     for place in missing.iter().take(MOST_LISTED) {
-        if let Some(note) = notes.kept.get(*place) {
+        if let Some(note) = seen.notes().kept.get(*place) {
             say_note(text, note, clocks)?;
+            say_part_within(text, seen, note.onset)?;
         }
     }
     say_others(text, missing.len())
@@ -69,7 +70,7 @@ fn say_extra(
     seen: &Findings<'_>,
     only: &OnlyInOne,
     clocks: Clocks,
-    has_likeness: bool,
+    wants_likeness: bool,
 ) -> Result<(), AllocError> {
     let notes = seen.notes();
     say_count(
@@ -82,7 +83,7 @@ fn say_extra(
         if let Some(note) = notes.exported.get(*place) {
             say_note(text, note, clocks)?;
             say_parts_then(text, seen, note.onset)?;
-            if has_likeness {
+            if wants_likeness {
                 say_likeness(text, seen.claim(), note, &notes.kept, &only.missing)?;
             }
         }
@@ -102,8 +103,8 @@ fn say_one_way(text: &mut Text, only: &OnlyInOne, way: OneWay) -> Result<(), All
     }
 }
 
-/// Says which annotations aren't as claimed. Where all of them differ in one way, those of several exports are listed all the same, with
-/// the exports.
+/// Says which annotations aren't as claimed. Where all of them differ in one way, those that several exports have are listed all the same,
+/// since each may be in another export.
 pub(crate) fn say_annotations(
     text: &mut Text,
     seen: &Findings<'_>,
@@ -118,7 +119,7 @@ pub(crate) fn say_annotations(
         }
         return say_extra(text, seen, only, clocks, false);
     }
-    say_missing(text, notes, &only.missing, clocks)?;
+    say_missing(text, seen, &only.missing, clocks)?;
     say_extra(text, seen, only, clocks, true)?;
     if !only.missing.is_empty() {
         return text.say(words::NOTES_ADVICE, &[]);

@@ -1,4 +1,4 @@
-//! In which of several exports annotations begin at a time.
+//! Which of several exports have annotations at a time, and which covers it.
 
 use crate::words::parts as words;
 use edf_findings::{Findings, PartFindings};
@@ -35,6 +35,37 @@ pub(crate) fn say_parts_then(
     for part in seen.others() {
         number = number.saturating_add(1);
         say_part_then(text, number, part, onset)?;
+    }
+    Ok(())
+}
+
+/// Says that a part covers a time, if it does.
+fn say_if_within(
+    text: &mut Text,
+    number: u16,
+    part: &PartFindings,
+    onset: i128,
+) -> Result<(), AllocError> {
+    if part.covers(onset) {
+        text.say(words::NOTE_WITHIN, &[Piece::Number(i128::from(number))])?;
+    }
+    Ok(())
+}
+
+/// Says which of several exports covers a time, if one does. Where there is one export alone, nothing is said.
+pub(crate) fn say_part_within(
+    text: &mut Text,
+    seen: &Findings<'_>,
+    onset: i128,
+) -> Result<(), AllocError> {
+    if seen.others().is_empty() {
+        return Ok(());
+    }
+    say_if_within(text, 0, seen.first(), onset)?;
+    let mut number: u16 = 0;
+    for part in seen.others() {
+        number = number.saturating_add(1);
+        say_if_within(text, number, part, onset)?;
     }
     Ok(())
 }

@@ -1,7 +1,7 @@
 //! Sentences on where an export starts.
 
 use crate::tried::shifts::TriedShifts;
-use crate::words::starts as words;
+use crate::words::{parts, starts as words};
 use edf_fields::SECOND_PS;
 use edf_findings::{Findings, MOST_SHIFT, PartFindings, Starts};
 use edf_sentences::{Piece, Text};
@@ -63,41 +63,42 @@ fn say_elsewhere(text: &mut Text, starts: &Starts, shifts: &TriedShifts) -> Resu
     shifts.say(text, starts)
 }
 
-/// Whether one of several exports starts as claimed; not where the claim keeps no sample in its time.
-fn starts_as_claimed(part: &PartFindings) -> bool {
-    match part.starts() {
-        Some(starts) => starts.are_same(),
-        None => false,
-    }
+/// Says by how much a part starts elsewhere than the first sample that is kept behind the part in front of it. Which of the two parts
+/// should have what is missing between them isn't known.
+fn say_behind_front(text: &mut Text, starts: &Starts) -> Result<(), AllocError> {
+    let later = starts.later_ps();
+    let sentence = if later < 0 {
+        parts::STARTS_EARLIER
+    } else {
+        parts::STARTS_LATER
+    };
+    text.say(
+        sentence,
+        &[
+            Piece::Moment(starts.exported_ps),
+            Piece::Length(later),
+            Piece::Moment(starts.claimed_ps),
+        ],
+    )
 }
 
-/// Whether each part in front of the one with this number starts as claimed. Where one doesn't, the first sample that is kept behind it may
-/// be one that it should have, so it isn't known where the parts behind it should start.
-fn are_starts_known(seen: &Findings<'_>, number: u16) -> bool {
-    let behind = usize::from(number.saturating_sub(1));
-    number == 0
-        || starts_as_claimed(seen.first())
-            && seen
-                .others()
-                .iter()
-                .take(behind)
-                .all(|part: &PartFindings| -> bool { starts_as_claimed(part) })
-}
-
-/// Says where one of several exports starts, if it is known where it should, and it doesn't start there.
+/// Says where the export with this number starts, of several, if it doesn't start as claimed. Only of the first one it is known where it
+/// should start.
 pub(crate) fn say_start_of_part(
     text: &mut Text,
-    seen: &Findings<'_>,
     number: u16,
     part: &PartFindings,
 ) -> Result<(), AllocError> {
-    match part.starts() {
-        Some(starts) if !starts.are_same() && are_starts_known(seen, number) => {
-            say_difference(text, &starts)?;
-            say_likeness(text, &starts)
-        }
-        _ => Ok(()),
+    let starts = match part.starts() {
+        Some(starts) if !starts.are_same() => starts,
+        _ => return Ok(()),
+    };
+    if number == 0 {
+        say_difference(text, &starts)?;
+    } else {
+        say_behind_front(text, &starts)?;
     }
+    say_likeness(text, &starts)
 }
 
 /// Says what other shifts would change of several exports, of which the first doesn't start as claimed.

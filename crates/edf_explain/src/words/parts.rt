@@ -16,12 +16,22 @@ pub(crate) const PART_EARLY: &str =
 
 pub(crate) const PART_NOT_COMPARED: &str = "  Its samples weren't compared.";
 
+/// When a part starts, by how much earlier, and where the first sample belongs that is kept behind the part in front of it.
+pub(crate) const STARTS_EARLIER: &str =
+    "Its first samples are at {0}, {1} earlier than the first one that the claim keeps behind the part in front of it, which belongs at {2}.";
+
+pub(crate) const STARTS_LATER: &str =
+    "Its first samples are at {0}, {1} later than the first one that the claim keeps behind the part in front of it, which belongs at {2}.";
+
 pub(crate) const NOTES_OF_ALL: &str = "The annotations of all parts together:";
 
 /// The number of the part, and how many annotations.
 pub(crate) const NOTE_THEN: &str = "    Part {0} has 1 annotation that begins at this time.";
 
 pub(crate) const NOTES_THEN: &str = "    Part {0} has {1} annotations that begin at this time.";
+
+/// The number of the part.
+pub(crate) const NOTE_WITHIN: &str = "    Part {0} covers this time.";
 
 pub(crate) const NOTES_OF_ALL_AS_CLAIMED: &str =
     "The annotations of all parts together were compared all the same. They are as claimed.";
