@@ -3,7 +3,8 @@
 usage: python3 -m tests.held FILE COMMAND..
 
 The number of units of 1024 bytes is written to FILE. What the system says of a process counts the memory of the one that
-began it, too, so a command is begun by this one, which is small. It ends with the command's status.
+began it, too, so a command is begun by this one, which is small: some 14 MB, below which nothing is seen. It ends with the
+command's status.
 """
 
 import pathlib

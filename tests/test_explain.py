@@ -208,28 +208,33 @@ class Checks(ExplainCase):
 
 
 class Memory(ProgramCase):
-    """How much memory an explanation holds, beside the check of the same files."""
+    """How much memory an explanation holds, beside a check of the same night that compares all annotations: that of a copy, since a
+    check lets them go behind a sample that differs."""
 
-    # How much more it may be, in units of 1024 bytes: what is counted of 22 channels, and the sentences.
-    MORE = 512
-    LENGTHS = 300, 3000
-
-    # Of several exports it is noted, too, when each annotation begins: so many bytes for each at the most. The night for that has so
-    # many annotations a second that the check holds more than what begins it (tests/held.py).
-    MORE_OF_EACH = 32
+    # How much more it may be, in units of 1024 bytes: what is counted of 22 channels, what stands in front of each file, and the
+    # sentences. Of several exports it is noted, too, when each annotation begins: so many bytes for each at the most.
+    MORE, MORE_OF_EACH = 1024, 32
+    # The nights have so many annotations a second that a check holds more than what begins it (tests/held.py).
     NOTES_A_SECOND = 40
+    LENGTHS = 3000, 6000
 
     @classmethod
     def setUpClass(cls):
         super().setUpClass()
         cls.claims = {}
         for seconds in cls.LENGTHS:
-            night = Night(seconds)
-            files = {"original": night, "half": dataclasses.replace(night, rate=85), "twice": dataclasses.replace(night, rate=340)}
+            night = cls.noted(seconds)
+            files = {"original": night, "half": dataclasses.replace(night, rate=5), "twice": dataclasses.replace(night, rate=20)}
             for name, made in files.items():
                 write(cls.room / f"{name}-{seconds}.edf", made)
             other_values(cls.room / f"original-{seconds}.edf", cls.room / f"changed-{seconds}.edf", night)
             cls.claims[seconds] = cls.claim_of_all(night)
+
+    @classmethod
+    def noted(cls, seconds, **how):
+        """A night with many annotations."""
+        notes = remarks(["Apnea"] * (cls.NOTES_A_SECOND * seconds), seconds)
+        return Night(seconds, rate=10, lane=1024, notes=notes, **how)
 
     @classmethod
     def claim_of_all(cls, night):
@@ -238,35 +243,29 @@ class Memory(ProgramCase):
         keep = f'keep = [{{ from = "0", to = "{night.seconds}" }}]'
         return cls.file(f"{night.seconds}.toml", f"format = 1\nchannels = [{labels}]\n{keep}\n")
 
-    def held(self, command, *files):
-        """How much memory a command holds at the most, which answers No."""
+    def held(self, status, command, *files):
+        """How much memory a command holds at the most, which ends with this status."""
         here = {**os.environ, "PYTHONPATH": str(TOP)}
         ran = run(sys.executable, "-B", "-m", "tests.held", self.room / "held", self.program, command, *files, cwd=NIGHT, env=here)
-        self.assertEqual(ran.status, 1, f"{ran}\nwanted: status 1")
+        self.assertEqual(ran.status, status, f"{ran}\nwanted: status {status}")
         return int((self.room / "held").read_text(encoding="utf-8"))
 
-    def noted_halves(self, seconds):
-        """A night with many annotations, and its halves, all values of the second of which are other ones; and how many annotations
-        the halves have."""
-        texts = ["Apnea"] * (self.NOTES_A_SECOND * seconds)
-        night = Night(seconds, rate=10, lane=1024, notes=remarks(texts, seconds))
-        first = dataclasses.replace(night, seconds=seconds // 2, notes=remarks(texts[::2], seconds // 2))
-        second = dataclasses.replace(first, first=seconds // 2)
-        paths = [self.room / f"{name}.edf" for name in ("noted", "first-half", "same-half", "second-half")]
-        for path, made in zip(paths, (night, first, second)):
-            write(path, made)
-        other_values(paths[2], paths[3], second)
-        return paths[0], [paths[1], paths[3]], len(texts)
-
-    @each((f"{name}_in_{seconds}_s", name, seconds) for name in ("changed", "half", "twice") for seconds in (300, 3000))
+    @each((f"{name}_in_{seconds}_s", name, seconds) for name in ("changed", "half", "twice") for seconds in (3000, 6000))
     def beside_the_check(self, name, seconds):
-        files = self.room / f"original-{seconds}.edf", self.room / f"{name}-{seconds}.edf", self.claims[seconds]
-        check, explanation = self.held("check", *files), self.held("explain", *files)
+        original, claim = self.room / f"original-{seconds}.edf", self.claims[seconds]
+        check = self.held(0, "check", original, original, claim)
+        explanation = self.held(1, "explain", original, self.room / f"{name}-{seconds}.edf", claim)
         self.assertLess(explanation, check + self.MORE, f"so many KB are held, and {check} by the check")
 
     def test_two_halves_beside_the_check(self):
-        original, halves, count = self.noted_halves(3000)
-        files = original, self.claims[3000], *halves
-        check, explanation = self.held("check-parts", *files), self.held("explain-parts", *files)
-        most = check + self.MORE + self.MORE_OF_EACH * count // 1024
+        """All values of the second half are other ones."""
+        first, second = self.noted(1500), self.noted(1500, first=1500)
+        halves = [self.room / "first-half.edf", self.room / "second-half.edf"]
+        write(halves[0], first)
+        write(self.room / "same-half.edf", second)
+        other_values(self.room / "same-half.edf", halves[1], second)
+        night = self.room / "original-3000.edf", self.claims[3000]
+        check = self.held(0, "check-parts", *night, halves[0], self.room / "same-half.edf")
+        explanation = self.held(1, "explain-parts", *night, *halves)
+        most = check + self.MORE + self.MORE_OF_EACH * self.NOTES_A_SECOND * 3000 // 1024
         self.assertLess(explanation, most, f"so many KB are held, and {check} by the check")

@@ -5,6 +5,7 @@ pseudo-terminal or a pipe. On a terminal such lines come and are wiped before th
 has gone by none comes, nor of `show` and `notes`. Where standard error is no terminal nothing of it is printed.
 """
 
+import dataclasses
 import os
 import re
 import subprocess
@@ -105,6 +106,20 @@ class Signs(ProgramCase):
             f"{lines}; {ran}",
         )
         self.assertEqual(LINE.sub(b"", ran.err), WIPE + refusal, "what stands beside the lines")
+
+    # Other commands that show lines; what they print is what they print of the file itself.
+    SHOWN_BESIDE = [
+        ("read", ["read", "/dev/stdin"]),
+        ("layout", ["layout", "/dev/stdin"]),
+        ("explain_parts", ["explain-parts", "/dev/stdin", "claim.toml", "night.edf"]),
+    ]
+
+    @each(SHOWN_BESIDE)
+    def shown_beside(self, words):
+        files = [self.room / ("night.edf" if word == "/dev/stdin" else word) for word in words[1:]]
+        wanted, ran = self.run_program(words[0], *files), self.run_on(words, True)
+        self.assertTrue(LINE.search(ran.err), str(ran))
+        self.assert_ran(dataclasses.replace(ran, err=LINE.sub(b"", ran.err)), wanted.status, wanted.out, WIPE)
 
     def test_wiped_before_the_answer(self):
         ran = self.run_on(["conform", "/dev/stdin"], True, together=True)

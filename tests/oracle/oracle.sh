@@ -9,11 +9,12 @@
 # 1700 cases for the readers, 1000 for the run on two files, 2000 for that on several exports, and 10,000 honest exports
 # for the drafts, under each of which the second reading has to say the Yes that it says under the claim itself. The
 # toolchain lets a program run for 120 seconds and print 1 MB, so the cases of the last two are cut into several runs.
-# Each of the four ends with a line 'N passed, M failed'. Where the proved program stands, five more follow (where it doesn't, that is a failure), each with a
-# line of the same kind: 10,000 wrong exports, of which what it explains is recounted from how they were made
-# (tests/oracle/honesty.py), and 2,000 in one to four parts (tests/oracle/honest_parts.py); 10,000 honest ones that were
-# moved by any number of seconds, of which fewer than one in 100 has a draft that isn't a Yes
-# (tests/oracle/moved_drafts.py); 2,000 honest ones in two to four parts, each with a draft that is a Yes
+# Each of the four ends with a line 'N passed, M failed'. Where the proved program stands, five more follow (where it
+# doesn't, that is a failure), each with a line of the same kind: 10,000 wrong exports, of which what it explains is
+# recounted from how they were made (tests/oracle/honesty.py), and 2,000 in one to five parts
+# (tests/oracle/honest_parts.py); 10,000 honest ones that were moved by any number of seconds, of which fewer than one in
+# 100 has a draft that isn't a Yes (tests/oracle/moved_drafts.py); 2,000 honest ones in two to four parts, each with a
+# draft that is a Yes
 # (tests/oracle/drafted_parts.py); and 2,000 files, of which the lines of the layout are worked out anew and
 # each file out of these and of what it means, and no two that mean the same have the same lines (tests/oracle/layouts.py).
 # Last, of 2,000 files each byte is changed in several ways: where the meaning stays, the lines don't
