@@ -61,8 +61,8 @@ def behind(number, words):
 
 def starts(at, length, way, belongs):
     """What is said of where a part behind the first one starts."""
-    return (f"Its first samples are at {at}, {length} {way} than the first one that the claim keeps behind the part in front of it, "
-            f"which belongs at {belongs}.\n")
+    return (f"Its first samples are at {at}, {length} {way} than the first one of its channels that the claim keeps behind the part "
+            f"in front of it, which belongs at {belongs}.\n")
 
 
 # The exports, the status, what has to be said, and what not.
@@ -317,6 +317,9 @@ HALVES = [tries.NIGHT.cut(10, 40), tries.NIGHT.cut(40, 70)]
 MOVED = [half.but(shift=-tries.DAY) for half in HALVES]
 SCORED = tries.NIGHT.but(notes=[(20 * PS, 3 * PS, "Apnea"), (50 * PS, 2 * PS, "Arousal")])
 SCORED_HALVES = [SCORED.cut(10, 40), SCORED.cut(40, 70)]
+DAYS = tries.NIGHT.but(channels={"Temp": list(range(100))}, notes=[])
+LATE = tries.NIGHT.but(fraction=PS // 2, notes=[])
+LATE_HALVES = [LATE.but(stretches=[(0, 50)]), LATE.but(stretches=[(50, 100)])]
 LAST_NOTE, SNORING = (70 * PS, None, "Lights on"), (60 * PS, None, "Snoring")
 ENDED = tries.NIGHT.but(stretches=[(0, 70)], notes=[*tries.NIGHT.notes, LAST_NOTE])
 ENDED_HALVES = [HALVES[0], ENDED.cut(40, 71).but(stretches=[(40, 70)])]
@@ -330,9 +333,11 @@ TRIES = [
      [*tries.LISTED, "were tried", "together", "With channels", "With to", "Part 1", AS_CLAIMED]),
     ("a_forgotten_shift_and_a_lost_annotation", tries.NIGHT, [HALVES[0], HALVES[1].but(notes=[])], tries.of_ten(),
      [f"With shift = 0 the first difference would be NO 11 annotation missing at {50 * PS} ps duration none text \"Apnea\".",
-      "With it all samples are as claimed. What follows is worked out with shift = 0.", behind(0, AS_CLAIMED) + behind(1, AS_CLAIMED),
+      "With it all samples are as claimed. What follows is worked out with shift = 0.",
+      # the warning stands by the claimed shift
+      behind(0, "The export starts 1 day later than claimed"), "It starts as if nothing had been moved", behind(1, AS_CLAIMED),
       "The annotations of all parts together:\nThe export lacks 1 annotation"],
-     ["missing in the export", "another value", "1 day later", "With to"]),
+     ["missing in the export", "another value", "With to"]),
     ("a_forgotten_shift_and_another_value", tries.NIGHT, [HALVES[0], HALVES[1].changed("ECG", 100, -1)], tries.of_ten(),
      [f"With shift = 0 the first difference would be NO 10 sample \"ECG\" at {50 * PS} ps original {tries.ecg(50)} export -1.",
       f"What follows is worked out with shift = {-tries.DAY}, as claimed.",
@@ -376,6 +381,17 @@ TRIES = [
      [tries.NIGHT.cut(10, 30), tries.NIGHT.cut(35, 50), tries.NIGHT.cut(50, 70)], Claimed(tries.BOTH, [(10, 70)]),
      [behind(0, AS_CLAIMED), behind(1, starts("2002-03-02 22:00:35", "5 s", "later", "2002-03-02 22:00:30")), behind(2, AS_CLAIMED)],
      ["The export starts", *TRIED]),
+    # the samples of the second of two days are as claimed, and it only lacks the first one: it wasn't moved otherwise
+    ("a_day_that_is_missing", DAYS, [DAYS.cut(0, 10, -40), DAYS.cut(50, 100, -40)], Claimed(["Temp"], [(0, 100)], -40),
+     [behind(0, AS_CLAIMED), behind(1, starts("2002-03-02 22:00:10", "40 s", "later", "2002-03-02 21:59:30") + 'Channel "Temp": 40 samples')],
+     [*tries.LIKELY, *TRIED]),
+    ("a_part_of_a_second_that_both_halves_leave_out", LATE, [half.but(fraction=0) for half in LATE_HALVES], Claimed(tries.BOTH, [(0, 200)]),
+     [behind(0, "The export starts 0.5 s earlier than claimed"), "No shift lets it start as claimed, as a shift is whole seconds."],
+     ["The claim keeps no sample"]),
+    ("a_claim_that_keeps_nothing_of_halves", tries.NIGHT, HALVES, Claimed(tries.BOTH, [(200, 300)]),
+     ["The claim keeps no sample of the original: its intervals lie after the end of the recording"], ["The export starts", *TRIED]),
+    ("a_claim_that_keeps_nothing_beside_one_half", tries.NIGHT, HALVES, Claimed(tries.BOTH, [(40, 70)]),
+     ['120 samples of the export are ones', behind(1, AS_CLAIMED)], ["The claim keeps no sample"]),
     # the second half alone wasn't moved
     ("a_forgotten_shift_of_the_second_half", tries.NIGHT, [HALVES[0].but(shift=-10), HALVES[1]], tries.of_ten(-10),
      [behind(0, AS_CLAIMED), behind(1, starts("2002-03-02 22:00:40", "10 s", "later", "2002-03-02 22:00:30") + "It starts as if nothing had been moved")],
@@ -440,6 +456,12 @@ class Checks(ExplainPartsCase):
             self.assertIn(behind(other, 'Channel "Temp": 1 sample has another value in the export.\n'), text)
             self.assertIn(behind(1 - other, AS_CLAIMED), text)
             self.assertIn(f"  It is at {at[1]} s (", text)
+
+    def test_a_claim_for_an_export(self):
+        """The order of the files is that of the command."""
+        text, _ = self.explained(bytes_of(NIGHT), ALL_OF_IT, [ALL_OF_IT.encode(), bytes_of(SECOND)])
+        self.assertIn("The export looks like a claim. The order is: the original, the export, the claim; with explain-parts: the original, "
+                      "the claim, the exports.\n", text)
 
     def test_too_many(self):
         paths = [self.file("original.edf", bytes_of(NIGHT)), self.file("claim.toml", ALL_OF_IT)]

@@ -42,8 +42,8 @@ TOGETHER, NOTES_AS_CLAIMED = SENTENCES["NOTES_OF_ALL"], SENTENCES["NOTES_OF_ALL_
 AS_CLAIMED = SENTENCES["PART_AS_CLAIMED"]
 COMPARED = [SENTENCES["PART_COMPARED"], SENTENCES["PART_WITHOUT_CHANNELS"]]
 UNCOMPARED = [SENTENCES["PART_EARLY"], SENTENCES["PART_NOT_COMPARED"]]
-STARTS_BEHIND = re.compile(r"^Its first samples are at (\S+ \S+), (.*) (earlier|later) than the first one that the claim keeps "
-                           r"behind the part in front of it, which belongs at (\S+ \S+)\.$")
+STARTS_BEHIND = re.compile(r"^Its first samples are at (\S+ \S+), (.*) (earlier|later) than the first one of its channels that the claim "
+                           r"keeps behind the part in front of it, which belongs at (\S+ \S+)\.$")
 EARLY_LINE = re.compile(r"^NO 12 part (\d+) starts early$")
 
 
@@ -212,7 +212,7 @@ def starts_behind(lines):
 
 def wrong_start(lines, original, parts, number, claim, shift):
     """What is wrong with where a part starts, by this shift: the first one as by the claim, and each other one beside the first sample
-    that is kept behind the part in front of it."""
+    of its channels that is kept behind the part in front of it."""
     part, kept = parts[number], kept_in(original, parts, number, claim, shift)
     later, want = begin_of(part, shift) - min(kept, default=0), []
     if kept and later:
@@ -242,7 +242,8 @@ def wrong_part(lines, original, parts, number, claim, shift):
     """What is wrong with what is said of a part, by this shift."""
     part, said = parts[number], Said("\n".join(lines))
     span, counts = span_of(parts, number, shift), []
-    if wrong := wrong_start(lines, original, parts, number, claim, shift) or wrong_heads(lines, said, original, part, claim):
+    by = shift if number else claim.shift
+    if wrong := wrong_start(lines, original, parts, number, claim, by) or wrong_heads(lines, said, original, part, claim):
         return wrong
     for label in common(original, part, claim):
         found_apart = apart(original, part, claim, label, shift)

@@ -8,7 +8,7 @@ pub(crate) const AT_COLUMN: &str = "line {0}, column {1}: ";
 pub(crate) const LINE_CONTENT: &str = "{0}: ";
 
 pub(crate) const CLAIM_IS_A_RECORDING: &str =
-    "The file that was typed as the claim looks like a recording. The order is: the original, the export, the claim; with check-parts and receipt-parts: the original, the claim, the exports.";
+    "The file that was typed as the claim looks like a recording. The order is: the original, the export, the claim; with check-parts, explain-parts and receipt-parts: the original, the claim, the exports.";
 
 /// How many bytes it may have.
 pub(crate) const CLAIM_TOO_LONG: &str =

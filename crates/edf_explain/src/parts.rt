@@ -8,7 +8,7 @@ use crate::differences::clocks::Clocks;
 use crate::differences::compared::say_part_compared;
 use crate::differences::headers::say_heads;
 use crate::differences::samples::say_samples;
-use crate::differences::starts::{say_shifts_of_parts, say_start_of_part};
+use crate::differences::starts::{PartStart, say_nothing_kept, say_shifts_of_parts};
 use crate::faults::{fault_of_part, say_fault};
 use crate::front_source::FrontSource;
 use crate::heads::Heads;
@@ -106,20 +106,19 @@ fn say_faults<R: PartsRecordings>(
 fn say_samples_of_part(
     text: &mut Text,
     seen: &Findings<'_>,
-    number: u16,
     part: &PartFindings,
 ) -> Result<(), AllocError> {
-    say_start_of_part(text, number, part)?;
     let clocks = Clocks::of(seen.original_header(), part);
     say_samples(text, seen.claim().channels(), part.channels(), clocks)
 }
 
-/// Says how a part isn't as claimed, or that it is, and answers whether its header isn't.
+/// Says how a part, which starts so, isn't as claimed, or that it is, and answers whether its header isn't.
 fn say_part(
     text: &mut Text,
     seen: &Findings<'_>,
     number: u16,
     part: &PartFindings,
+    start: PartStart,
 ) -> Result<bool, AllocError> {
     say_part_name(text, number)?;
     let said = text.bytes().len();
@@ -130,7 +129,8 @@ fn say_part(
     if heads_differ {
         say_part_compared(text, part)?;
     }
-    say_samples_of_part(text, seen, number, part)?;
+    start.say(text, number)?;
+    say_samples_of_part(text, seen, part)?;
     if text.bytes().len() == said {
         text.say(words::PART_AS_CLAIMED, &[])?;
     }
@@ -146,14 +146,18 @@ struct SaidOfEach {
     heads_differ: bool,
 }
 
-/// Says how each part isn't as claimed, or that it is. The first one that wasn't compared begins early.
-fn say_each(text: &mut Text, seen: &Findings<'_>) -> Result<SaidOfEach, AllocError> {
-    let mut heads_differ = say_part(text, seen, 0, seen.first())?;
+/// Says how each part isn't as claimed, or that it is; the first one starts so. The first one that wasn't compared begins early.
+fn say_each(
+    text: &mut Text,
+    seen: &Findings<'_>,
+    start: PartStart,
+) -> Result<SaidOfEach, AllocError> {
+    let mut heads_differ = say_part(text, seen, 0, seen.first(), start)?;
     let mut number: u16 = 0;
     let mut are_compared = true;
     for part in seen.others() {
         number = number.saturating_add(1);
-        let differs = say_part(text, seen, number, part)?;
+        let differs = say_part(text, seen, number, part, PartStart::of(part))?;
         heads_differ = heads_differ || differs;
         if !part.is_compared() {
             let sentence = if are_compared {
@@ -208,16 +212,18 @@ fn say_behind<R: PartsRecordings>(
     }
 }
 
-/// Says how the parts aren't as claimed by what was seen of them, and what is to be done. Where not all were compared, annotations
-/// weren't. Where no other shift was tried, another end of an interval is.
+/// Says how the parts aren't as claimed by what was seen of them, of which the first starts so under the claim, and what is to be
+/// done. Where not all were compared, annotations weren't. Where no other shift was tried, another end of an interval is.
 fn say_listed<R: PartsRecordings>(
     text: &mut Text,
     parts: &PartsAsked<'_, R>,
     seen: &mut Findings<'_>,
     shifts: &TriedShifts,
+    start: PartStart,
 ) -> Result<(), PartsRunStop> {
     let only = seen.only_in_one(text.alloc())?;
-    let said = say_each(text, seen)?;
+    say_nothing_kept(text, seen)?;
+    let said = say_each(text, seen, start)?;
     if !said.are_compared {
         return Ok(());
     }
@@ -248,6 +254,7 @@ fn say_reckoned<R: PartsRecordings>(
     parts: &PartsAsked<'_, R>,
     shifts: &TriedShifts,
     seconds: i64,
+    start: PartStart,
 ) -> Result<(), PartsRunStop> {
     let alloc = text.alloc();
     let Some(changed) = with_shift(alloc, parts.asked.claim_text, seconds)? else {
@@ -261,7 +268,7 @@ fn say_reckoned<R: PartsRecordings>(
         hidden: asks_for_texts(&claim),
     };
     match seen_anew(alloc, parts, wanted)? {
-        Some(mut seen) => say_listed(text, parts, &mut seen, shifts),
+        Some(mut seen) => say_listed(text, parts, &mut seen, shifts, start),
         None => Ok(text.say(READ_ANEW, &[])?),
     }
 }
@@ -277,15 +284,16 @@ fn say_seen<R: PartsRecordings>(
     say_other_channels(text, &parts.asked, heads)?;
     let shifts = TriedShifts::of(text.alloc(), &parts.asked, seen.starts())?;
     say_shifts_of_parts(text, &seen, &shifts)?;
+    let start = PartStart::of(seen.first());
     if shifts.has_yes() {
         say_part_name(text, 0)?;
-        say_start_of_part(text, 0, seen.first())?;
+        start.say(text, 0)?;
         say_behind(text, parts, &seen)?;
         return Ok(());
     }
     match shifts.for_samples() {
-        Some(seconds) => say_reckoned(text, parts, &shifts, seconds),
-        None => say_listed(text, parts, &mut seen, &shifts),
+        Some(seconds) => say_reckoned(text, parts, &shifts, seconds, start),
+        None => say_listed(text, parts, &mut seen, &shifts, start),
     }
 }
 

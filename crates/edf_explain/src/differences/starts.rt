@@ -3,7 +3,7 @@
 use crate::tried::shifts::TriedShifts;
 use crate::words::{parts, starts as words};
 use edf_fields::SECOND_PS;
-use edf_findings::{Findings, MOST_SHIFT, PartFindings, Starts};
+use edf_findings::{Findings, MOST_SHIFT, PartFindings, SampleKinds, Starts};
 use edf_sentences::{Piece, Text};
 use std::alloc::AllocError;
 
@@ -53,14 +53,27 @@ fn say_unfitting(text: &mut Text, starts: &Starts) -> Result<(), AllocError> {
 }
 
 /// Says where the export starts, if it doesn't start as claimed, and what other shifts would change.
-fn say_elsewhere(text: &mut Text, starts: &Starts, shifts: &TriedShifts) -> Result<(), AllocError> {
+fn say_elsewhere(
+    text: &mut Text,
+    seen: &Findings<'_>,
+    starts: &Starts,
+    shifts: &TriedShifts,
+) -> Result<(), AllocError> {
     if starts.are_same() {
         return Ok(());
     }
     say_difference(text, starts)?;
-    say_likeness(text, starts)?;
+    if may_be_moved(seen.first()) {
+        say_likeness(text, starts)?;
+    }
     say_unfitting(text, starts)?;
     shifts.say(text, starts)
+}
+
+/// Whether samples of an export aren't as claimed, so that it may have been moved otherwise: those that it lacks don't tell that.
+fn may_be_moved(part: &PartFindings) -> bool {
+    let kinds = SampleKinds::of(part.channels());
+    kinds.extra || kinds.changed
 }
 
 /// Says by how much a part starts elsewhere than the first sample that is kept behind the part in front of it. Which of the two parts
@@ -82,23 +95,78 @@ fn say_behind_front(text: &mut Text, starts: &Starts) -> Result<(), AllocError> 
     )
 }
 
-/// Says where the export with this number starts, of several, if it doesn't start as claimed. Only of the first one it is known where it
-/// should start.
-pub(crate) fn say_start_of_part(
-    text: &mut Text,
-    number: u16,
-    part: &PartFindings,
-) -> Result<(), AllocError> {
-    let starts = match part.starts() {
-        Some(starts) if !starts.are_same() => starts,
-        _ => return Ok(()),
-    };
-    if number == 0 {
-        say_difference(text, &starts)?;
-    } else {
-        say_behind_front(text, &starts)?;
+/// Where one of several exports starts, under the claim, and whether it may have been moved otherwise.
+#[derive(Clone, Copy)]
+pub(crate) struct PartStart {
+    starts: Option<Starts>,
+    may_be_moved: bool,
+}
+
+impl PartStart {
+    /// That of this export.
+    pub(crate) fn of(part: &PartFindings) -> PartStart {
+        PartStart {
+            starts: part.starts(),
+            may_be_moved: may_be_moved(part),
+        }
     }
-    say_likeness(text, &starts)
+
+    /// Says where the export with this number starts, if it doesn't start as claimed. Only of the first one it is known where it
+    /// should start.
+    pub(crate) fn say(self, text: &mut Text, number: u16) -> Result<(), AllocError> {
+        let starts = match self.starts {
+            Some(starts) if !starts.are_same() => starts,
+            _ => return Ok(()),
+        };
+        if number == 0 {
+            say_difference(text, &starts)?;
+        } else {
+            say_behind_front(text, &starts)?;
+        }
+        if self.may_be_moved {
+            say_likeness(text, &starts)?;
+        }
+        if number == 0 {
+            say_unfitting(text, &starts)?;
+        }
+        Ok(())
+    }
+}
+
+/// Whether the claim keeps no sample of the original beside this export, which has all claimed channels.
+fn keeps_nothing(seen: &Findings<'_>, part: &PartFindings) -> bool {
+    part.is_compared() && part.has_all_channels(seen.claim()) && part.starts().is_none()
+}
+
+/// Whether the claim keeps no sample of the original beside any of several exports, each of which has all claimed channels.
+fn is_nothing_kept(seen: &Findings<'_>) -> bool {
+    for part in seen.others() {
+        if !keeps_nothing(seen, part) {
+            return false;
+        }
+    }
+    keeps_nothing(seen, seen.first())
+}
+
+/// Whether an interval was found beside one of several exports that has no sample in a data record of the original in which it lies.
+fn is_between_samples(seen: &Findings<'_>) -> bool {
+    for part in seen.others() {
+        if part.keeps_between() {
+            return true;
+        }
+    }
+    seen.keeps_between()
+}
+
+/// Says that the claim keeps no sample of the original, where that is so beside each of several exports.
+pub(crate) fn say_nothing_kept(text: &mut Text, seen: &Findings<'_>) -> Result<(), AllocError> {
+    if !is_nothing_kept(seen) {
+        return Ok(());
+    }
+    if is_between_samples(seen) {
+        return text.say(words::KEPT_BETWEEN, &[]);
+    }
+    text.say(words::NOTHING_KEPT, &[])
 }
 
 /// Says what other shifts would change of several exports, of which the first doesn't start as claimed.
@@ -121,7 +189,7 @@ pub(crate) fn say_starts(
     shifts: &TriedShifts,
 ) -> Result<(), AllocError> {
     match seen.starts() {
-        Some(starts) => say_elsewhere(text, &starts, shifts),
+        Some(starts) => say_elsewhere(text, seen, &starts, shifts),
         None if !seen.has_all_channels() => Ok(()),
         None if seen.keeps_between() => text.say(words::KEPT_BETWEEN, &[]),
         None => text.say(words::NOTHING_KEPT, &[]),

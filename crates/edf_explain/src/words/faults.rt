@@ -8,7 +8,7 @@ use edf_stop::Side;
 pub(crate) const FAULT: &str = "The {1} can't be judged. Its first fault is: {0}.";
 
 pub(crate) const LOOKS_LIKE_A_CLAIM: &str =
-    "The {1} looks like a claim. The order is: the original, the export, the claim.";
+    "The {1} looks like a claim. The order is: the original, the export, the claim; with explain-parts: the original, the claim, the exports.";
 
 /// The file of a side.
 pub(crate) fn name(side: Side) -> &'static str {

@@ -10,13 +10,13 @@ pub(crate) const CANNOT_READ: &str =
 // Files in the places of others.
 
 pub(crate) const EXPORT_TWICE: &str =
-    "Both files say the same in their headers, and have X where the claim hides something: it looks like the export was typed as the original, too. The order is: the original, the export, the claim.";
+    "Both files say the same in their headers, and have X where the claim hides something: it looks like the export was typed as the original, too. The order is: the original, the export, the claim; with explain-parts: the original, the claim, the exports.";
 
 pub(crate) const ORIGINAL_TWICE: &str =
-    "Both files say the same in their headers, though the claim moves or hides something: it looks like the original was typed as the export, too, or nothing was moved or hidden in the export. The order is: the original, the export, the claim.";
+    "Both files say the same in their headers, though the claim moves or hides something: it looks like the original was typed as the export, too, or nothing was moved or hidden in the export. The order is: the original, the export, the claim; with explain-parts: the original, the claim, the exports.";
 
 pub(crate) const EXCHANGED: &str =
-    "The original has X where the claim hides something, and the export doesn't: it looks like these two were exchanged. The order is: the original, the export, the claim.";
+    "The original has X where the claim hides something, and the export doesn't: it looks like these two were exchanged. The order is: the original, the export, the claim; with explain-parts: the original, the claim, the exports.";
 
 /// Where a file has a fault when it is read once more, under the shift by which all else is worked out.
 pub(crate) const READ_ANEW: &str =

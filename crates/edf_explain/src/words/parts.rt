@@ -12,16 +12,16 @@ pub(crate) const PART_WITHOUT_CHANNELS: &str =
     "  It has no claimed channel that the original has, too, so none of its samples was compared.";
 
 pub(crate) const PART_EARLY: &str =
-    "  It begins before the part in front of it ends, so it isn't known which of the two has the samples there. Its samples weren't compared, nor those of the parts behind it, nor annotations: put the parts in the order of time, or make them so that none overlaps the next.";
+    "  It begins before the part in front of it ends, so it isn't known which of the two has the samples there. Its samples weren't compared, nor those of the parts behind it, nor annotations: put the parts in the order of time, or make them so that none overlaps the next. If one of them was moved by another time than the others, or not at all, it may seem to overlap them, and its date may be the true one: compare where the parts start before anything goes out.";
 
 pub(crate) const PART_NOT_COMPARED: &str = "  Its samples weren't compared.";
 
-/// When a part starts, by how much earlier, and where the first sample belongs that is kept behind the part in front of it.
+/// When a part starts, by how much earlier, and where the first sample of its channels belongs that is kept behind the part in front of it.
 pub(crate) const STARTS_EARLIER: &str =
-    "Its first samples are at {0}, {1} earlier than the first one that the claim keeps behind the part in front of it, which belongs at {2}.";
+    "Its first samples are at {0}, {1} earlier than the first one of its channels that the claim keeps behind the part in front of it, which belongs at {2}.";
 
 pub(crate) const STARTS_LATER: &str =
-    "Its first samples are at {0}, {1} later than the first one that the claim keeps behind the part in front of it, which belongs at {2}.";
+    "Its first samples are at {0}, {1} later than the first one of its channels that the claim keeps behind the part in front of it, which belongs at {2}.";
 
 pub(crate) const NOTES_OF_ALL: &str = "The annotations of all parts together:";
 
