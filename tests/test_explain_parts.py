@@ -100,7 +100,7 @@ ROWS = [
         [changed(FIRST, (signal(0, "label"), "A"), (signal(1, "label"), "B")), SECOND],
         1,
         ['The claim names channel "ECG", but the export doesn\'t have it', NO_CHANNEL, behind(1, AS_CLAIMED), NOTES_AS_CLAIMED],
-        [COMPARED, SO_CLAIMED],
+        [COMPARED, SO_CLAIMED, "The export starts", "The claim keeps no sample"],
     ),
     (
         "other_headers_in_both_halves",
@@ -353,10 +353,19 @@ TRIES = [
      [behind(0, AS_CLAIMED), behind(1, 'Channel "ECG": 1 sample has another value')], TRIED),
     # the first half ends before the time that the claim keeps, so the first sample that is kept comes behind it
     ("halves_an_hour_early", tries.NIGHT, [half.but(shift=-tries.DAY - 3600) for half in HALVES], tries.of_ten(),
-     [behind(0, 'Channel "EEG Fpz-Cz": 120 samples of the export are ones that the claim doesn\'t keep'),
-      behind(1, starts("2002-03-01 21:00:40", "59 minutes 30 s", "earlier", "2002-03-01 22:00:10")
-             + 'Channel "EEG Fpz-Cz": 240 samples that the claim keeps are missing')],
-     ["The export starts", *TRIED]),
+     [f"With shift = {-tries.DAY - 3600} {YES} 1.", behind(0, "The export starts 1 hour earlier than claimed")],
+     [*tries.LISTED, *tries.LIKELY, "Part 1"]),
+    ("a_forgotten_shift_forwards", tries.NIGHT, HALVES, tries.of_ten(tries.DAY),
+     [f"With shift = 0 {YES} 1.", behind(0, "The export starts 1 day earlier than claimed"), "It starts as if nothing had been moved"],
+     [*tries.LISTED, "Part 1"]),
+    ("halves_moved_back_for_forwards", tries.NIGHT, MOVED, tries.of_ten(tries.DAY),
+     [f"With shift = {-tries.DAY} {YES} 1.", behind(0, "The export starts 2 days earlier than claimed"), "moved the other way"],
+     [*tries.LISTED, "Part 1"]),
+    ("a_half_moved_too_far_back_and_another_value", tries.NIGHT,
+     [MOVED[0].but(shift=-tries.DAY - 3600), MOVED[1].changed("ECG", 100, -1)], tries.of_ten(),
+     [behind(0, "The export starts 1 hour earlier than claimed"),
+      behind(1, starts("2002-03-01 22:00:40", "30 s", "later", "2002-03-01 22:00:10") + 'Channel "EEG Fpz-Cz": 120 samples that the claim')],
+     ["would be YES", *tries.LIKELY]),
     # the first part ends where the second interval has begun, so what it lacks there may be its own
     ("two_intervals_later", tries.NIGHT,
      [tries.NIGHT.cut(10, 40, 15 - tries.DAY), tries.NIGHT.cut(50, 70, 15 - tries.DAY).changed("ECG", 110, -1)],

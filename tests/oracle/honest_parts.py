@@ -197,6 +197,18 @@ def kept_in(original, parts, number, claim, shift):
             if claim.keeps(at) and first <= at < end]
 
 
+def kept_first(original, parts, claim, shift):
+    """The same of the first part that has such a sample in its time, of those that are compared. Behind one that lacks a claimed channel
+    it isn't known, nor of one behind the first that lacks one."""
+    early = first_early(parts)
+    for number, part in enumerate(parts[:early]):
+        kept = kept_in(original, parts, number, claim, shift)
+        has_all = len(common(original, part, claim)) == len(claim.labels)
+        if kept or not has_all:
+            return kept if has_all or number == 0 else []
+    return []
+
+
 def with_all_notes(parts):
     """The first part with the annotations of all parts, each at its time by the clock of the first one."""
     first = parts[0]
@@ -213,7 +225,7 @@ def starts_behind(lines):
 def wrong_start(lines, original, parts, number, claim, shift):
     """What is wrong with where a part starts, by this shift: the first one as by the claim, and each other one beside the first sample
     of its channels that is kept behind the part in front of it."""
-    part, kept = parts[number], kept_in(original, parts, number, claim, shift)
+    part, kept = parts[number], kept_in(original, parts, number, claim, shift) if number else kept_first(original, parts, claim, shift)
     later, want = begin_of(part, shift) - min(kept, default=0), []
     if kept and later:
         exported = clock(part.begin() * PS + part.fraction, part.shift)
@@ -412,7 +424,7 @@ class HonestParts(Honesty):
         early, found = first_early(parts), EARLY_LINE.match(line)
         if found and int(found[1]) != early or not found and early is not None and not re.match("NO [3-9] ", line):
             return f"the first part that begins early is {early}; the check: {line}"
-        kept = kept_in(original, parts, 0, claim, claim.shift)
+        kept = kept_first(original, parts, claim, claim.shift)
         first = min(kept, default=0)
         starts = begin_of(parts[0], claim.shift) - first if kept else 0, first
         if wrong := (self.wrong_remedies(said, claim, files, line, first)

@@ -8,7 +8,7 @@ use crate::differences::clocks::Clocks;
 use crate::differences::compared::say_part_compared;
 use crate::differences::headers::say_heads;
 use crate::differences::samples::say_samples;
-use crate::differences::starts::{PartStart, say_nothing_kept, say_shifts_of_parts};
+use crate::differences::starts::{PartStart, say_nothing_kept, say_shifts_of_parts, starts_of_all};
 use crate::faults::{fault_of_part, say_fault};
 use crate::front_source::FrontSource;
 use crate::heads::Heads;
@@ -282,9 +282,9 @@ fn say_seen<R: PartsRecordings>(
 ) -> Result<(), PartsRunStop> {
     let heads = Heads::of(&seen, seen.first());
     say_other_channels(text, &parts.asked, heads)?;
-    let shifts = TriedShifts::of(text.alloc(), &parts.asked, seen.starts())?;
+    let shifts = TriedShifts::of(text.alloc(), &parts.asked, starts_of_all(&seen))?;
     say_shifts_of_parts(text, &seen, &shifts)?;
-    let start = PartStart::of(seen.first());
+    let start = PartStart::of_first(&seen);
     if shifts.has_yes() {
         say_part_name(text, 0)?;
         start.say(text, 0)?;

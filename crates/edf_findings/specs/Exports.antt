@@ -2,7 +2,7 @@
 use Rattle.std.specs.Prelude.{◌==◌, ◌&&◌, ℕ, ℤ, pos, Bool, false, List, [], length, slice_get, Option, None, Some, option_and_then}
 use Rattle.edf_claim.specs.ClaimValues.{ClaimValue}
 use Rattle.edf_header.specs.Heads.{Head}
-use Rattle.edf_findings.specs.Noting.{lasts_over}
+use Rattle.edf_findings.specs.Noting.{begin_of, lasts_over}
 use Rattle.edf_findings.specs.declared.findings.Findings.{Findings}
 use Rattle.edf_findings.specs.declared.part.ComparedPart.{ComparedPart}
 use Rattle.edf_findings.specs.declared.part.PartFindings.{PartFindings}
@@ -38,6 +38,11 @@ onsets_of part = onsets_in part.compared
 abbrev pub covers_in : Option ComparedPart → ℤ → Bool
 covers_in None at = false
 covers_in (Some part) at = lasts_over (part.noted).time at
+
+-- when the first data record of such an export begins
+abbrev pub begins_in : Option ComparedPart → Option ℤ
+begins_in None = None
+begins_in (Some part) = begin_of (part.noted).time
 
 -- how many of these begins there are
 abbrev pub count_onsets : PartFindings → ℕ

@@ -41,6 +41,11 @@ noted_with stand noted =
     }
     else noted
 
+-- when a time begins
+abbrev pub begin_of : Option RecordTime → Option ℤ
+begin_of None = None
+begin_of (Some time) = Some time.from_ps
+
 -- a time has begun at another, and isn't over
 abbrev pub lasts_over : Option RecordTime → ℤ → Bool
 lasts_over None at = false

@@ -2,7 +2,7 @@
 
 ghost use Rattle.std.specs.Prelude.{◌≡◌, ◌++◌, ◌<◌, ◌^◌, unsigned_abs, OnOk};
 ghost use Rattle.edf_stream.specs.Views.{notes_left};
-ghost use Rattle.edf_findings.specs.Noting.{lasts_over, noted_with, nothing_noted, onsets_by};
+ghost use Rattle.edf_findings.specs.Noting.{begin_of, lasts_over, noted_with, nothing_noted, onsets_by};
 
 use crate::record_time::RecordTime;
 use crate::stand::{RecordCount, Stand};
@@ -92,6 +92,16 @@ impl Noted {
         ensures { result.now ≡ self.entry.now.onsets }
     {
         &self.onsets
+    }
+
+    /// When the first data record begins; none where none was noted.
+    pub(crate) fn begin_ps(&self) -> Option<i128>
+        ensures { result ≡ begin_of self.now.time }
+    {
+        match self.time {
+            Some(time) => Some(time.from_ps),
+            None => None,
+        }
     }
 
     /// Whether the export has begun at a time, and isn't over.

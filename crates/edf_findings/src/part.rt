@@ -5,7 +5,7 @@ ghost use Rattle.std.specs.List.{list_all};
 ghost use Rattle.std.specs.Ordering.{int_eq};
 ghost use Rattle.edf_heads.specs.Comparisons.{AreSorted};
 ghost use Rattle.edf_findings.specs.Told.{AreTold};
-ghost use Rattle.edf_findings.specs.Exports.{channels_of, covers_in, has_all_of, head_in, is_clean, keeps_between_in, moved_in, onsets_of, starts_of};
+ghost use Rattle.edf_findings.specs.Exports.{begins_in, channels_of, covers_in, has_all_of, head_in, is_clean, keeps_between_in, moved_in, onsets_of, starts_of};
 ghost use Rattle.edf_findings.specs.Found.{IsFoundIn};
 ghost use Rattle.edf_findings.specs.Noting.{noted_with, nothing_noted, stand_in};
 
@@ -293,6 +293,16 @@ impl PartFindings {
             .iter()
             .filter(|other| **other == onset)
             .count()
+    }
+
+    /// When its first data record begins, in picoseconds after the second at which the original starts; none where it wasn't compared.
+    pub fn begin_ps(&self) -> Option<i128>
+        ensures { result ≡ begins_in self.now.compared }
+    {
+        match &self.compared {
+            Some(compared) => compared.noted.begin_ps(),
+            None => None,
+        }
     }
 
     /// Whether it had begun at a time, and wasn't over: from the begin of its first data record, and before the end of its last. The time is

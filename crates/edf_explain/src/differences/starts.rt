@@ -3,7 +3,7 @@
 use crate::tried::shifts::TriedShifts;
 use crate::words::{parts, starts as words};
 use edf_fields::SECOND_PS;
-use edf_findings::{Findings, MOST_SHIFT, PartFindings, SampleKinds, Starts};
+use edf_findings::{Findings, MOST_SHIFT, PartFindings, SampleKinds, Starts, start_of};
 use edf_sentences::{Piece, Text};
 use std::alloc::AllocError;
 
@@ -102,7 +102,56 @@ pub(crate) struct PartStart {
     may_be_moved: bool,
 }
 
+/// Of exports behind the first one: the first sample that is kept, and where the one starts beside which it is. Where one lacks a
+/// claimed channel, it isn't known.
+fn first_kept(seen: &Findings<'_>) -> Option<Starts> {
+    for part in seen.others() {
+        if !part.has_all_channels(seen.claim()) {
+            return None;
+        }
+        if let Some(starts) = part.starts() {
+            return Some(starts);
+        }
+    }
+    None
+}
+
+/// Where several exports start, of which the first ends before all that the claim keeps.
+fn starts_early(seen: &Findings<'_>) -> Option<Starts> {
+    let part = seen.first();
+    if !keeps_nothing(seen, part) {
+        return None;
+    }
+    let begin_ps = part.begin_ps()?;
+    let kept = first_kept(seen)?;
+    let exported_ps = start_of(part.header())
+        .saturating_sub(part.moved_ps())
+        .saturating_add(begin_ps);
+    Some(Starts {
+        claimed_ps: kept.claimed_ps,
+        exported_ps,
+        first_ps: kept.first_ps,
+        shift_ps: kept.shift_ps,
+    })
+}
+
+/// Where several exports start: the first of them, beside the first sample that is kept; none where none is.
+pub(crate) fn starts_of_all(seen: &Findings<'_>) -> Option<Starts> {
+    match seen.starts() {
+        Some(starts) => Some(starts),
+        None => starts_early(seen),
+    }
+}
+
 impl PartStart {
+    /// That of the first of several exports.
+    pub(crate) fn of_first(seen: &Findings<'_>) -> PartStart {
+        PartStart {
+            starts: starts_of_all(seen),
+            may_be_moved: may_be_moved(seen.first()),
+        }
+    }
+
     /// That of this export.
     pub(crate) fn of(part: &PartFindings) -> PartStart {
         PartStart {
@@ -175,7 +224,7 @@ pub(crate) fn say_shifts_of_parts(
     seen: &Findings<'_>,
     shifts: &TriedShifts,
 ) -> Result<(), AllocError> {
-    match seen.starts() {
+    match starts_of_all(seen) {
         Some(starts) if !shifts.are_none() => shifts.say(text, &starts),
         _ => Ok(()),
     }
