@@ -32,6 +32,12 @@ APNEA_IN_FIRST = recording(
 )
 MORE_AT_ONE_TIME = second(last_lane=lane(40, b"+1\x14\x14\x00+1\x14Apnea\x14Snoring\x14\x00"))
 TWICE_IN_SECOND = second(last_lane=lane(40, b"+1\x14\x14\x00+1\x14Apnea\x14Apnea\x14\x00"))
+# All annotations of the night in the second half, too; and as many as all in each half, of which some are others.
+ALL_IN_SECOND = second(first_lane=lane(40, b"+0\x14\x14\x00-1.5\x14Lights off\x14\x00-0.5\x151\x14Apnea\x14\x00"))
+THREE_IN_FIRST = recording(
+    parts=[VALUES_0, LANE_0, VALUES_1, lane(40, b"+1\x14\x14\x00+1.5\x151\x14Apnea\x14\x00+1.75\x14Snoring\x14\x00")], base=FIRST
+)
+THREE_IN_SECOND = second(first_lane=lane(40, b"+0\x14\x14\x00+0.5\x14Snoring\x14Yawning\x14\x00"))
 # The annotations of the first half a quarter of a second earlier; and the second half in one data record, with one more.
 EARLIER_IN_FIRST = recording(
     parts=[VALUES_0, lane(40, b"+0\x14\x14\x00+0.25\x14Lights off\x14\x00"),
@@ -174,6 +180,23 @@ ROWS = [
         1,
         ['text "Apnea"\n    Part 1 has 2 annotations that begin at this time.\n    The claim keeps this annotation, but fewer times'],
         ["    Part 0 has"],
+    ),
+    (
+        "all_annotations_in_each_half",
+        [APNEA_IN_FIRST, ALL_IN_SECOND],
+        1,
+        [
+            "The annotations of all parts together:\nEach part has 3 annotations, as many as the claim keeps in all: it looks as if each",
+            "The export has 3 annotations that the claim doesn't keep:", "\nRun edfclaim notes on each file to see all annotations.\n",
+        ],
+        ["both files", "In a claim, remove"],
+    ),
+    (
+        "as_many_annotations_in_each_half_as_are_kept",
+        [THREE_IN_FIRST, THREE_IN_SECOND],
+        1,
+        ["The export has 3 annotations that the claim doesn't keep:", 'text "Yawning"\n    Part 1 has 2 annotations'],
+        ["Each part has", "both files"],
     ),
     (
         "an_annotation_more_beside_one_that_is_kept",
@@ -471,6 +494,15 @@ class Checks(ExplainPartsCase):
         text, _ = self.explained(bytes_of(NIGHT), ALL_OF_IT, [ALL_OF_IT.encode(), bytes_of(SECOND)])
         self.assertIn("The export looks like a claim. The order is: the original, the export, the claim; with explain-parts: the original, "
                       "the claim, the exports.\n", text)
+
+    def test_a_folder_among_the_exports(self):
+        """It is named by its path, though the line says only that an export can't be read."""
+        folder = self.room / "a-folder"
+        folder.mkdir(exist_ok=True)
+        paths = [self.file("original.edf", bytes_of(NIGHT)), self.file("claim.toml", ALL_OF_IT), self.file("part.edf", bytes_of(FIRST))]
+        given = self.run_program("explain-parts", *paths, folder)
+        said = sentences.filled(sentences.sentences()["CANNOT_READ"], [str(folder)])
+        self.assertEqual((given.status, given.out, given.err.decode()), (2, b"", f"edfclaim: reading export failed\n{said}\n"))
 
     def test_too_many(self):
         paths = [self.file("original.edf", bytes_of(NIGHT)), self.file("claim.toml", ALL_OF_IT)]

@@ -5,17 +5,18 @@ usage: python3 -m tests.oracle.honest_parts PROGRAM [COUNT [SEED]]
 It makes COUNT nights with a claim and an export as tests/oracle/honesty.py does (2,000 where none is said; SEED is a number, 1 if none
 is said, and the same number makes the same files), wrong in up to three ways, and cuts the export into one to four parts. Of some
 nights one part alone has another header or another shift; parts are exchanged, one is handed in twice, or one begins in the last
-second of the part in front of it; or files are broken off, or have bytes behind their ends. PROGRAM runs `check-parts` and
-`explain-parts` on each. What the sentences state is recounted from how the files were made: of each part which rules of its header are
-broken, and whether its samples were compared all the same; by how much it starts elsewhere than claimed or, behind the first part, than
-the first sample that is kept behind the part in front of it, and when; and of each of its channels how many samples are missing, too
-many and changed, the first and the last of them, and how many of how many are
-changed where nearly all are; of all parts together which annotations are missing and too many, and of each of those that are too many
-how many annotations of each part begin when it does, and of each of those that are missing which part covers its time. What is missing
-in front of a part counts for it, and behind the last part for that one. Of a part that begins before the one in front of it ends, and
-of those behind it, the headers alone are compared, and no annotations are. Where files can't be judged, the first fault of each is
-said, and nothing else. Each change of the claim that is named is put into the claim, `check-parts` is run again, and its line is
-compared with what was said. Which ones are tried follows from how the files were made, too: one that helps has to be named.
+second of the part in front of it; each part has the annotations of all; or files are broken off, or have bytes behind their ends.
+PROGRAM runs `check-parts` and `explain-parts` on each. What the sentences state is recounted from how the files were made: of each
+part which rules of its header are broken, and whether its samples were compared all the same; by how much it starts elsewhere than
+claimed or, behind the first part, than the first sample that is kept behind the part in front of it, and when; and of each of its
+channels how many samples are missing, too many and changed, the first and the last of them, and how many of how many are changed where
+nearly all are; of all parts together which annotations are missing and too many, of each of those that are too many how many
+annotations of each part begin when it does, of each of those that are missing which part covers its time, and whether it looks as if
+each part had all of them. What is missing in front of a part counts for it, and behind the last part for that one. Of a part that
+begins before the one in front of it ends, and of those behind it, the headers alone are compared, and no annotations are. Where files
+can't be judged, the first fault of each is said, and nothing else. Each change of the claim that is named is put into the claim,
+`check-parts` is run again, and its line is compared with what was said. Which ones are tried follows from how the files were made, too:
+one that helps has to be named.
 
 What disagrees is said, of twenty exports at the most. The last line counts the exports that passed and failed.
 """
@@ -118,6 +119,13 @@ def order_otherwise(parts):
         parts[number].stretches = stretches_of([before, *seconds_of(parts[number])])
 
 
+def all_in_each(export, parts):
+    """The annotations of all parts in each of them, as far as a data record has room for them."""
+    if len(export.notes) <= 6:
+        for part in parts:
+            part.notes = list(export.notes)
+
+
 def broken(files):
     """How many bytes each file has lost at its end, one or two of them some; below 0 it has as many behind its end."""
     lost = [0] * len(files)
@@ -137,6 +145,8 @@ def parts_case():
         shift_of_one(parts)
     elif way == 2:
         order_otherwise(parts)
+    elif way == 4:
+        all_in_each(export, parts)
     files = [original, *parts]
     return original, parts, claim, broken(files) if way == 3 else [0] * len(files)
 
@@ -341,6 +351,17 @@ def wrong_then(lines, parts, shift):
     return None if want == lines else f"behind annotations parts are to be named so: {want}; said: {lines}"
 
 
+def lines_of_each(original, parts, claim, shift):
+    """What has to be said where each of several parts has as many annotations as the claim keeps in all, none is missing, and some of each
+    begin when the first and the last of those do."""
+    kept = [onset for onset, _, text in original.notes if claim.keeps(onset) and text not in claim.remove]
+    begins = [[onset + (part.shift - shift) * PS for onset, *_ in part.notes] for part in parts]
+    missing, _ = notes_apart(original, with_all_notes(parts), claim, shift)
+    if len(parts) > 1 and len(kept) > 1 and not missing:
+        if all(len(found) == len(kept) and {min(kept), max(kept)} <= set(found) for found in begins):
+            yield filled(SENTENCES["ALL_IN_EACH"], [str(len(kept))])
+
+
 def wrong_each(sections, original, parts, claim, shift):
     """What is wrong with what is said of each part, by this shift, or none."""
     early = first_early(parts)
@@ -448,6 +469,10 @@ class HonestParts(Honesty):
         together, exported = sections.together or [], with_all_notes(parts)
         of_notes = Said("\n".join(together))
         missing = of_notes.listed.get("lacks", ([], 0))[0]
+        of_each = list(lines_of_each(original, parts, claim, shift))
+        if [line for line in together if line.startswith("Each part has ")] != of_each:
+            return f"of each part it lacks {of_each}; said: {together}"
+        self.seen["parts each of which has all annotations"] += bool(of_each)
         self.seen["annotations of which it is said which part has them"] += any(THEN.match(line) for line in together)
         self.seen["missing annotations in the time of a part"] += any(WITHIN.match(line) for line in together)
         self.seen["missing annotations in the time of no part"] += len(parts) > 1 and any(

@@ -7,6 +7,7 @@ use crate::differences::annotations::say_annotations;
 use crate::differences::clocks::Clocks;
 use crate::differences::compared::say_part_compared;
 use crate::differences::headers::say_heads;
+use crate::differences::parts_then::say_if_each_has_all;
 use crate::differences::samples::say_samples;
 use crate::differences::starts::{PartStart, say_nothing_kept, say_shifts_of_parts, starts_of_all};
 use crate::faults::{fault_of_part, say_fault};
@@ -189,6 +190,7 @@ fn say_notes(
         return Ok(());
     }
     text.say(words::NOTES_OF_ALL, &[])?;
+    say_if_each_has_all(text, seen, only)?;
     let clocks = Clocks::of(seen.original_header(), seen.first());
     say_annotations(text, seen, only, clocks)
 }

@@ -1,8 +1,9 @@
 //! What stands on standard error behind the line of an `explain` or an `explain-parts` that is refused.
 
-use crate::files::claim_text;
+use crate::files::{claim_text, recording};
 use edf_claim_advice::explain_claim;
 use edf_explain::{explain_opening, explain_reading};
+use edf_fields::Source;
 use edf_jobs::Job;
 use edf_refusal::{Refusal, Role};
 use std::alloc::AllocError;
@@ -50,8 +51,42 @@ fn opening_hints_of_parts<R: Files + AllocGlobal>(
     Ok(Vec::new(rt.alloc()))
 }
 
+/// Whether a file can be opened now and not be read, as a folder.
+fn is_unreadable<R: Files + AllocGlobal>(rt: &R, path: &str) -> bool {
+    match recording(rt, path, Role::Export) {
+        Ok(mut source) => source.read(&mut [0; 1]).is_err(),
+        Err(_) => false,
+    }
+}
+
+/// A sentence on the first of several exports of which a read fails now; nothing where none does.
+fn reading_hints_of_parts<R: Files + AllocGlobal>(
+    rt: &R,
+    exports: &[&str],
+) -> Result<Vec<u8>, AllocError> {
+    for path in exports {
+        if is_unreadable(rt, path) {
+            return explain_reading(rt.alloc(), path);
+        }
+    }
+    Ok(Vec::new(rt.alloc()))
+}
+
+/// The sentences on one of several exports that can't be opened or read; nothing where that isn't why.
+fn hints_of_parts<R: Files + AllocGlobal>(
+    rt: &R,
+    exports: &[&str],
+    refusal: &Refusal,
+) -> Result<Vec<u8>, AllocError> {
+    match refusal {
+        Refusal::CannotOpen(Role::Export) => opening_hints_of_parts(rt, exports),
+        Refusal::Reading(Role::Export) => reading_hints_of_parts(rt, exports),
+        _ => Ok(Vec::new(rt.alloc())),
+    }
+}
+
 /// The sentences behind the line of a refusal: of `explain` and `explain-parts` alone, where the claim is refused, or a file can't
-/// be opened or read. Which of several exports can't be read isn't known.
+/// be opened or read.
 pub fn hints<R: Files + AllocGlobal>(
     rt: &R,
     job: Job<'_>,
@@ -66,10 +101,9 @@ pub fn hints<R: Files + AllocGlobal>(
         (Some(path), Refusal::Claim(_)) => claim_hints(rt, path),
         (Some(path), Refusal::CannotOpen(_)) => opening_hints(rt, path),
         (Some(path), Refusal::Reading(_)) => explain_reading(rt.alloc(), path),
-        (None, Refusal::CannotOpen(Role::Export)) => match job {
-            Job::ExplainParts { exports, .. } => opening_hints_of_parts(rt, exports),
+        _ => match job {
+            Job::ExplainParts { exports, .. } => hints_of_parts(rt, exports, refusal),
             _ => Ok(Vec::new(rt.alloc())),
         },
-        _ => Ok(Vec::new(rt.alloc())),
     }
 }

@@ -4,6 +4,7 @@ use crate::differences::clocks::Clocks;
 use crate::differences::likeness::say_likeness;
 use crate::differences::parts_then::{say_part_within, say_parts_then};
 use crate::words::annotations as words;
+use crate::words::parts::{NOTES_ADVICE_OF_PARTS, NOTES_ALL_OF_PARTS};
 use edf_findings::{Findings, OneWay, OnlyInOne, one_way};
 use edf_sentences::{NOT_LISTED, Piece, Text};
 use edf_stream::Note;
@@ -103,6 +104,19 @@ fn say_one_way(text: &mut Text, only: &OnlyInOne, way: OneWay) -> Result<(), All
     }
 }
 
+/// Says where all annotations are seen, and, where some are missing, how a claim leaves some out.
+fn say_advice(text: &mut Text, seen: &Findings<'_>, only: &OnlyInOne) -> Result<(), AllocError> {
+    let is_one = seen.others().is_empty();
+    let sentence = match (only.missing.is_empty(), only.extra.is_empty()) {
+        (true, true) => return Ok(()),
+        (true, false) if is_one => words::NOTES_ALL,
+        (true, false) => NOTES_ALL_OF_PARTS,
+        _ if is_one => words::NOTES_ADVICE,
+        _ => NOTES_ADVICE_OF_PARTS,
+    };
+    text.say(sentence, &[])
+}
+
 /// Says which annotations aren't as claimed. Where all of them differ in one way, those that several exports have are listed all the same,
 /// since each may be in another export.
 pub(crate) fn say_annotations(
@@ -121,11 +135,5 @@ pub(crate) fn say_annotations(
     }
     say_missing(text, seen, &only.missing, clocks)?;
     say_extra(text, seen, only, clocks, true)?;
-    if !only.missing.is_empty() {
-        return text.say(words::NOTES_ADVICE, &[]);
-    }
-    if !only.extra.is_empty() {
-        return text.say(words::NOTES_ALL, &[]);
-    }
-    Ok(())
+    say_advice(text, seen, only)
 }

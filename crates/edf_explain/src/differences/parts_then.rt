@@ -1,8 +1,9 @@
 //! Which of several exports have annotations at a time, and which covers it.
 
 use crate::words::parts as words;
-use edf_findings::{Findings, PartFindings};
+use edf_findings::{Findings, OnlyInOne, PartFindings};
 use edf_sentences::{Piece, Text};
+use edf_stream::Note;
 use std::alloc::AllocError;
 
 /// Says how many annotations of a part begin at a time, if there are any.
@@ -68,4 +69,34 @@ pub(crate) fn say_part_within(
         say_if_within(text, number, part, onset)?;
     }
     Ok(())
+}
+
+/// Whether a part has as many annotations as these, and some that begin when the first and the last of these do.
+fn may_have_all(part: &PartFindings, kept: &[Note]) -> bool {
+    match (kept.first(), kept.last()) {
+        (Some(first), Some(last)) => {
+            part.onsets().len() == kept.len()
+                && part.count_at(first.onset) > 0
+                && part.count_at(last.onset) > 0
+        }
+        _ => false,
+    }
+}
+
+/// Says that each of several exports has as many annotations as the claim keeps in all, if it does, none of which is missing, and if some
+/// of each begin when the first and the last of those do. Where the claim keeps one alone nothing is said.
+pub(crate) fn say_if_each_has_all(
+    text: &mut Text,
+    seen: &Findings<'_>,
+    only: &OnlyInOne,
+) -> Result<(), AllocError> {
+    let kept = seen.notes().kept.as_slice();
+    if kept.len() < 2 || !only.missing.is_empty() || !seen.has_all_onsets() {
+        return Ok(());
+    }
+    let others_may = seen.others().iter().all(|part| may_have_all(part, kept));
+    if seen.others().is_empty() || !others_may || !may_have_all(seen.first(), kept) {
+        return Ok(());
+    }
+    text.say(words::ALL_IN_EACH, &[Piece::Number(kept.len() as i128)])
 }

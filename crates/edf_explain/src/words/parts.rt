@@ -33,5 +33,15 @@ pub(crate) const NOTES_THEN: &str = "    Part {0} has {1} annotations that begin
 /// The number of the part.
 pub(crate) const NOTE_WITHIN: &str = "    Part {0} covers this time.";
 
+/// How many annotations.
+pub(crate) const ALL_IN_EACH: &str =
+    "Each part has {0} annotations, as many as the claim keeps in all: it looks as if each of them had all annotations. Each annotation belongs in one part alone.";
+
+pub(crate) const NOTES_ADVICE_OF_PARTS: &str =
+    "Run edfclaim notes on each file to see all annotations. In a claim, remove and remove-prefix leave annotations out by their texts, and blank makes their texts X.";
+
+pub(crate) const NOTES_ALL_OF_PARTS: &str =
+    "Run edfclaim notes on each file to see all annotations.";
+
 pub(crate) const NOTES_OF_ALL_AS_CLAIMED: &str =
     "The annotations of all parts together were compared all the same. They are as claimed.";
