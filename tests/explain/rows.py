@@ -315,7 +315,7 @@ def of_samples():
     ):
         there, absent = ([looks, "24 of the 24"], [filtered]) if is_all else ([filtered], [looks])
         yield name, 1, WHOLE, with_values(change), ALL_OF_IT, there, absent
-    between = "an interval lies within a data record, and no sample of a claimed channel stands in it"
+    between = "an interval, or a part of it, lies in a data record, and no sample of a claimed channel stands there"
     behind = "its intervals lie after the end of the recording, in a gap, or before its first data record"
     for keep, there, absent in (((("0.1", "0.2"),), [between], [behind]), ((("100", "101"),), [behind], [between]),
                                 ((("0.1", "0.3"),), [], [behind, between])):

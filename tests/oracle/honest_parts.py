@@ -11,7 +11,7 @@ part which rules of its header are broken, and whether its samples were compared
 claimed or, behind the first part, than the first sample that is kept behind the part in front of it, and when; and of each of its
 channels how many samples are missing, too many and changed, the first and the last of them, and how many of how many are changed where
 nearly all are; of all parts together which annotations are missing and too many, of each of those that are too many how many
-annotations of each part begin when it does, of each of those that are missing which part covers its time, and whether it looks as if
+annotations of each part begin when it does, of each of those that are missing in the time of which part it lies, and whether it looks as if
 each part had all of them. What is missing in front of a part counts for it, and behind the last part for that one. Of a part that
 begins before the one in front of it ends, and of those behind it, the headers alone are compared, and no annotations are. Where files
 can't be judged, the first fault of each is said, and nothing else. Each change of the claim that is named is put into the claim,
@@ -21,6 +21,7 @@ one that helps has to be named.
 What disagrees is said, of twenty exports at the most. The last line counts the exports that passed and failed.
 """
 
+import collections
 import os
 import re
 import sys
@@ -37,7 +38,7 @@ from tests.oracle.honesty import (
 
 PART = re.compile(r"^Part (\d+):$")
 THEN = re.compile(r"^    Part \d+ has \d+ annotations? that begins? at this time\.$")
-WITHIN = re.compile(r"^    Part \d+ covers this time\.$")
+WITHIN = re.compile(r"^    This time lies between the begin and the end of part \d+\.$")
 SENTENCES = sentences([OF_PARTS])
 TOGETHER, NOTES_AS_CLAIMED = SENTENCES["NOTES_OF_ALL"], SENTENCES["NOTES_OF_ALL_AS_CLAIMED"]
 AS_CLAIMED = SENTENCES["PART_AS_CLAIMED"]
@@ -337,7 +338,7 @@ def lines_within(at, parts, shift):
 
 def wrong_then(lines, parts, shift):
     """What is wrong with the parts that are named behind an annotation: behind one that is too many, how many annotations of each begin
-    when it does; behind one that is missing, the part that covers its time."""
+    when it does; behind one that is missing, the part in whose time it lies."""
     want, lines_behind = [], None
     for line in lines:
         if THEN.match(line) or WITHIN.match(line):
@@ -352,13 +353,14 @@ def wrong_then(lines, parts, shift):
 
 
 def lines_of_each(original, parts, claim, shift):
-    """What has to be said where each of several parts has as many annotations as the claim keeps in all, none is missing, and some of each
-    begin when the first and the last of those do."""
-    kept = [onset for onset, _, text in original.notes if claim.keeps(onset) and text not in claim.remove]
+    """What has to be said where none of several annotations is missing, those that are too many are the kept ones, once for each further
+    part, and each part has as many as are kept, some of which begin when the first and the last of those do."""
+    kept = [note for note in original.notes if claim.keeps(note[0]) and note[2] not in claim.remove]
     begins = [[onset + (part.shift - shift) * PS for onset, *_ in part.notes] for part in parts]
-    missing, _ = notes_apart(original, with_all_notes(parts), claim, shift)
-    if len(parts) > 1 and len(kept) > 1 and not missing:
-        if all(len(found) == len(kept) and {min(kept), max(kept)} <= set(found) for found in begins):
+    missing, extra = notes_apart(original, with_all_notes(parts), claim, shift)
+    if len(parts) > 1 and len(kept) > 1 and not missing and extra == collections.Counter(kept * (len(parts) - 1)):
+        ends = {min(kept)[0], max(kept)[0]}
+        if all(len(found) == len(kept) and ends <= set(found) for found in begins):
             yield filled(SENTENCES["ALL_IN_EACH"], [str(len(kept))])
 
 

@@ -18,8 +18,8 @@ use std::alloc::Global;
 /// a person has to confirm.
 ///
 /// The text is a claim, and it says the channels of the export in its order, the subfields that are `X` in the export and not
-/// as in the original, and a shift by whole days that puts the export into the time of the original, or any where none does
-/// that. The outcome is `Yes`. Of the rest no clause speaks: the intervals that the export's data records cover then, the texts
+/// as in the original, and a shift: one by whole days that puts the export into the time of the original, or any where none does
+/// that; or another one with which the check is a Yes, or gets no less far than with one by days. The outcome is `Yes`. Of the rest no clause speaks: the intervals that the export's data records cover then, the texts
 /// of annotations there that the original has and the export hasn't, and the comments. The first line is one: it says what the
 /// check answers with the draft, for which both files are opened anew. Where they can't be read once more, it says that.
 /// Others say where no shift by whole days fits, where several do, which channels the original lacks, and where it looks like

@@ -13,7 +13,7 @@ use crate::faults::{say_fault, say_fault_of_export};
 use crate::heads::Heads;
 use crate::tried::other_channels::say_other_channels;
 use crate::tried::other_end::say_other_end;
-use crate::tried::shifts::TriedShifts;
+use crate::tried::shifts::{TriedShift, TriedShifts};
 use crate::words::files::READ_ANEW;
 use edf_claim::Claim;
 use edf_fields::{Fault, Sink, put_all};
@@ -116,28 +116,34 @@ fn say_both<R: Recordings>(
     Ok(())
 }
 
-/// What is seen of both files under another claim; none where one has a fault now.
+/// What is seen of both files under another claim; none where the check doesn't answer now what it answered when that was tried, as
+/// where a file was changed.
 fn seen_anew<'c, R: Recordings>(
     alloc: Global,
     asked: &Asked<'_, OneExport<'_, R>>,
     wanted: Wanted<'_, 'c>,
+    tried: &Verdict,
 ) -> Result<Option<Findings<'c>>, RunStop> {
     let mut original = asked.tries.recordings.open_original()?;
     let mut export = asked.tries.recordings.open_export()?;
-    let Checked { found, .. } = findings_of(alloc, &mut original, &mut export, wanted)?;
-    Ok(found)
+    let Checked { verdict, found } = findings_of(alloc, &mut original, &mut export, wanted)?;
+    if verdict == *tried {
+        Ok(found)
+    } else {
+        Ok(None)
+    }
 }
 
-/// The same where samples and annotations are reckoned by another shift, in seconds.
+/// The same where samples and annotations are reckoned by another shift, which was tried.
 fn say_reckoned<R: Recordings>(
     text: &mut Text,
     asked: &Asked<'_, OneExport<'_, R>>,
     claimed: &Findings<'_>,
     shifts: &TriedShifts,
-    seconds: i64,
+    tried: &TriedShift,
 ) -> Result<(), RunStop> {
     let alloc = text.alloc();
-    let Some(changed) = with_shift(alloc, asked.claim_text, seconds)? else {
+    let Some(changed) = with_shift(alloc, asked.claim_text, tried.seconds)? else {
         return Ok(());
     };
     let claim_text = changed.as_slice();
@@ -147,7 +153,7 @@ fn say_reckoned<R: Recordings>(
         claim: &claim,
         hidden: asks_for_texts(&claim),
     };
-    let Some(mut seen) = seen_anew(alloc, asked, wanted)? else {
+    let Some(mut seen) = seen_anew(alloc, asked, wanted, &tried.answer.verdict)? else {
         text.say(READ_ANEW, &[])?;
         return Ok(());
     };
@@ -168,8 +174,8 @@ fn say_seen<R: Recordings>(
 ) -> Result<(), RunStop> {
     let alloc = text.alloc();
     let shifts = TriedShifts::of(alloc, asked, seen.starts())?;
-    if let Some(seconds) = shifts.for_samples() {
-        return say_reckoned(text, asked, &seen, &shifts, seconds);
+    if let Some(tried) = shifts.for_samples() {
+        return say_reckoned(text, asked, &seen, &shifts, tried);
     }
     let only = seen.only_in_one(alloc)?;
     let both = Both {

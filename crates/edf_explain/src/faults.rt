@@ -6,7 +6,7 @@ ghost use Rattle.edf_stream.specs.Faults.{file_fault};
 use crate::front_source::FrontSource;
 use crate::limits::{MOST_ANNOTATIONS, MOST_RECORD_BYTES};
 use crate::words::faults as words;
-use edf_fields::{Cause, Fault, Source};
+use edf_fields::{Cause, Fault, FixedField, Place, Source};
 use edf_header::Stop;
 use edf_sentences::{Piece, Text, begins_as_bdf, begins_as_edf, looks_like_a_claim};
 use edf_stop::{CheckStop, PartSide, PartsRunStop, RunStop, Side};
@@ -26,9 +26,14 @@ fn is_plain_edf(front: &[u8]) -> bool {
     }
 }
 
-/// What the front of a file tells of it, where that is all that is to be said: it is empty, or of another kind.
-fn kind_of(front: &[u8]) -> Option<&'static str> {
-    if front.is_empty() {
+/// Whether a file ends in its first field.
+fn ends_at_once(fault: &Fault) -> bool {
+    fault.cause == Cause::Truncated && fault.place == Place::AtField(FixedField::Version)
+}
+
+/// What the front of a file with a fault tells of it, where that is all that is to be said: it is empty, or of another kind.
+fn kind_of(front: &[u8], fault: &Fault) -> Option<&'static str> {
+    if front.is_empty() && ends_at_once(fault) {
         return Some(words::EMPTY);
     }
     if begins_as_bdf(front) {
@@ -67,7 +72,7 @@ pub(crate) fn say_fault(
     if looks_like_a_claim(front) {
         return text.say(words::LOOKS_LIKE_A_CLAIM, &pieces);
     }
-    if let Some(kind) = kind_of(front) {
+    if let Some(kind) = kind_of(front, fault) {
         return text.say(kind, &[]);
     }
     say_meaning(text, fault)?;

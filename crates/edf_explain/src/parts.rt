@@ -15,7 +15,7 @@ use crate::front_source::FrontSource;
 use crate::heads::Heads;
 use crate::tried::other_channels::say_other_channels;
 use crate::tried::other_end::say_other_end;
-use crate::tried::shifts::TriedShifts;
+use crate::tried::shifts::{TriedShift, TriedShifts};
 use crate::words::files::READ_ANEW;
 use crate::words::parts as words;
 use edf_fields::{Fault, Sink, put_all};
@@ -237,29 +237,40 @@ fn say_listed<R: PartsRecordings>(
     Ok(())
 }
 
-/// What is seen of all exports under another claim; none where a file has a fault now.
+/// What is seen of all exports under another claim; none where the check doesn't answer now what it answered when that was tried, as
+/// where a file was changed.
 fn seen_anew<'c, R: PartsRecordings>(
     alloc: Global,
     parts: &PartsAsked<'_, R>,
     wanted: Wanted<'_, 'c>,
+    tried: &Verdict,
 ) -> Result<Option<Findings<'c>>, PartsRunStop> {
     let recordings = parts.asked.tries.recordings;
     let mut original = recordings.open_original()?;
     let mut exports = recordings.open_exports(alloc)?;
-    let CheckedParts { found, .. } = findings_of_parts(alloc, &mut original, &mut exports, wanted)?;
-    Ok(found)
+    let CheckedParts { verdict, found } = findings_of_parts(
+        alloc,
+        &mut original,
+        &mut exports,
+        wanted,
+    )?;
+    if verdict.verdict == *tried {
+        Ok(found)
+    } else {
+        Ok(None)
+    }
 }
 
-/// Says the same where samples and annotations are reckoned by another shift, in seconds.
+/// Says the same where samples and annotations are reckoned by another shift, which was tried.
 fn say_reckoned<R: PartsRecordings>(
     text: &mut Text,
     parts: &PartsAsked<'_, R>,
     shifts: &TriedShifts,
-    seconds: i64,
+    tried: &TriedShift,
     start: PartStart,
 ) -> Result<(), PartsRunStop> {
     let alloc = text.alloc();
-    let Some(changed) = with_shift(alloc, parts.asked.claim_text, seconds)? else {
+    let Some(changed) = with_shift(alloc, parts.asked.claim_text, tried.seconds)? else {
         return Ok(());
     };
     let claim_text = changed.as_slice();
@@ -269,7 +280,7 @@ fn say_reckoned<R: PartsRecordings>(
         claim: &claim,
         hidden: asks_for_texts(&claim),
     };
-    match seen_anew(alloc, parts, wanted)? {
+    match seen_anew(alloc, parts, wanted, &tried.answer.verdict)? {
         Some(mut seen) => say_listed(text, parts, &mut seen, shifts, start),
         None => Ok(text.say(READ_ANEW, &[])?),
     }
@@ -294,7 +305,7 @@ fn say_seen<R: PartsRecordings>(
         return Ok(());
     }
     match shifts.for_samples() {
-        Some(seconds) => say_reckoned(text, parts, &shifts, seconds, start),
+        Some(tried) => say_reckoned(text, parts, &shifts, tried, start),
         None => say_listed(text, parts, &mut seen, &shifts, start),
     }
 }

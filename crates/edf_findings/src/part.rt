@@ -156,11 +156,12 @@ impl ComparedPart {
     ) -> Result<ComparedPart, AllocError>
         requires sorted { AreSorted (under.claim).now.channels under.labels.now }
         requires counts { length counts.now ≡ length under.labels.now }
-        ensures told { IfOk result (λ part. AreTold (under.entry.claim).now.channels under.entry.labels.now (record {
-          original = (under.entry.original).now;
-          export = export.now;
-          counts = counts.now;
-        }) part.channels.items) }
+        ensures told { IfOk result (λ part. AreTold (under.entry.claim).now.channels under.entry.labels.now
+            (record {
+              original = (under.entry.original).now;
+              export = export.now;
+              counts = counts.now;
+            }) part.channels.items) }
         ensures noted { IfOk result (λ part. part.noted ≡ so_far.noted) }
     {
         let headers = (under.original, export);

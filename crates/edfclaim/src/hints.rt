@@ -1,9 +1,8 @@
 //! What stands on standard error behind the line of an `explain` or an `explain-parts` that is refused.
 
-use crate::files::{claim_text, recording};
+use crate::files::claim_text;
 use edf_claim_advice::explain_claim;
 use edf_explain::{explain_opening, explain_reading};
-use edf_fields::Source;
 use edf_jobs::Job;
 use edf_refusal::{Refusal, Role};
 use std::alloc::AllocError;
@@ -51,21 +50,21 @@ fn opening_hints_of_parts<R: Files + AllocGlobal>(
     Ok(Vec::new(rt.alloc()))
 }
 
-/// Whether a file can be opened now and not be read, as a folder.
-fn is_unreadable<R: Files + AllocGlobal>(rt: &R, path: &str) -> bool {
-    match recording(rt, path, Role::Export) {
-        Ok(mut source) => source.read(&mut [0; 1]).is_err(),
+/// Whether a path is that of a folder.
+fn is_folder<R: Files>(rt: &R, path: &str) -> bool {
+    match fs::metadata(rt, path) {
+        Ok(metadata) => metadata.is_dir(),
         Err(_) => false,
     }
 }
 
-/// A sentence on the first of several exports of which a read fails now; nothing where none does.
+/// A sentence on the first of several exports that is a folder; nothing where none is, since it isn't known then of which a read failed.
 fn reading_hints_of_parts<R: Files + AllocGlobal>(
     rt: &R,
     exports: &[&str],
 ) -> Result<Vec<u8>, AllocError> {
     for path in exports {
-        if is_unreadable(rt, path) {
+        if is_folder(rt, path) {
             return explain_reading(rt.alloc(), path);
         }
     }
@@ -86,7 +85,7 @@ fn hints_of_parts<R: Files + AllocGlobal>(
 }
 
 /// The sentences behind the line of a refusal: of `explain` and `explain-parts` alone, where the claim is refused, or a file can't
-/// be opened or read.
+/// be opened or read. Of several exports one that can't be read is named where it is a folder.
 pub fn hints<R: Files + AllocGlobal>(
     rt: &R,
     job: Job<'_>,

@@ -23,7 +23,7 @@ fn is_cut_text(short: &str, long: &str) -> bool {
         && long.as_bytes().starts_with(short.as_bytes())
 }
 
-/// Whether two annotations have one text and one duration, at times that are rounded.
+/// Whether two annotations have one text, at times of which one may be the other one rounded.
 fn is_rounded(note: &Note, other: &Note) -> bool {
     note.onset != other.onset
         && note.onset.saturating_sub(other.onset).unsigned_abs() <= ROUNDED_PS

@@ -1,7 +1,7 @@
 //! Which of several exports have annotations at a time, and which covers it.
 
 use crate::words::parts as words;
-use edf_findings::{Findings, OnlyInOne, PartFindings};
+use edf_findings::{Findings, Notes, OnlyInOne, PartFindings};
 use edf_sentences::{Piece, Text};
 use edf_stream::Note;
 use std::alloc::AllocError;
@@ -83,19 +83,37 @@ fn may_have_all(part: &PartFindings, kept: &[Note]) -> bool {
     }
 }
 
-/// Says that each of several exports has as many annotations as the claim keeps in all, if it does, none of which is missing, and if some
-/// of each begin when the first and the last of those do. Where the claim keeps one alone nothing is said.
+/// Whether all annotations that are too many are those that are kept, in their order, each so many times.
+fn are_kept_again(notes: &Notes, extra: &[usize], times: usize) -> bool {
+    for (i, place) in extra.iter().enumerate() {
+        let kept = match i.checked_div(times) {
+            Some(number) => notes.kept.get(number),
+            None => None,
+        };
+        match (kept, notes.exported.get(*place)) {
+            (Some(kept), Some(exported)) if kept == exported => {}
+            _ => return false,
+        }
+    }
+    true
+}
+
+/// Says that it looks as if each of several exports had all annotations: none is missing, those that are too many are the kept ones, once for
+/// each further export, and each export has as many as are kept, some of which begin when the first and the last of these do. Where the
+/// claim keeps one alone nothing is said.
 pub(crate) fn say_if_each_has_all(
     text: &mut Text,
     seen: &Findings<'_>,
     only: &OnlyInOne,
 ) -> Result<(), AllocError> {
     let kept = seen.notes().kept.as_slice();
-    if kept.len() < 2 || !only.missing.is_empty() || !seen.has_all_onsets() {
+    let further = seen.others().len();
+    if kept.len() < 2 || further == 0 || !only.missing.is_empty() || !seen.has_all_onsets() {
         return Ok(());
     }
-    let others_may = seen.others().iter().all(|part| may_have_all(part, kept));
-    if seen.others().is_empty() || !others_may || !may_have_all(seen.first(), kept) {
+    let each_may = may_have_all(seen.first(), kept)
+        && seen.others().iter().all(|part| may_have_all(part, kept));
+    if !each_may || !are_kept_again(seen.notes(), &only.extra, further) {
         return Ok(());
     }
     text.say(words::ALL_IN_EACH, &[Piece::Number(kept.len() as i128)])

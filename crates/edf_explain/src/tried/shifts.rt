@@ -9,9 +9,9 @@ use std::alloc::{AllocError, Global};
 
 /// A shift that was tried, and what the check answers with it.
 #[derive(Drop)]
-struct TriedShift {
-    seconds: i64,
-    answer: TriedAnswer,
+pub(crate) struct TriedShift {
+    pub(crate) seconds: i64,
+    pub(crate) answer: TriedAnswer,
 }
 
 /// The shifts that were tried.
@@ -99,11 +99,11 @@ impl TriedShifts {
         }
     }
 
-    /// The shift in seconds with which all samples are as claimed, and annotations aren't.
-    pub(crate) fn for_samples(&self) -> Option<i64> {
+    /// The shift with which all samples are as claimed, and annotations aren't.
+    pub(crate) fn for_samples(&self) -> Option<&TriedShift> {
         let best = self.best.as_ref()?;
         match &best.answer.verdict {
-            Verdict::No(Difference::Annotation { .. }) => Some(best.seconds),
+            Verdict::No(Difference::Annotation { .. }) => Some(best),
             _ => None,
         }
     }

@@ -16,8 +16,9 @@ pub(crate) const ORIGINAL_TWICE: &str =
     "Both files say the same in their headers, though the claim moves or hides something: it looks like the original was typed as the export, too, or nothing was moved or hidden in the export. The order is: the original, the export, the claim; with explain-parts: the original, the claim, the exports.";
 
 pub(crate) const EXCHANGED: &str =
-    "The original has X where the claim hides something, and the export doesn't: it looks like these two were exchanged. The order is: the original, the export, the claim; with explain-parts: the original, the claim, the exports.";
+    "The original has X where the claim hides something, and the export shows something that the claim hides: it looks like these two were exchanged. The order is: the original, the export, the claim; with explain-parts: the original, the claim, the exports.";
 
-/// Where a file has a fault when it is read once more, under the shift by which all else is worked out.
+/// Where the check answers something else when the files are read once more under the shift by which all else is worked out than when it was
+/// tried.
 pub(crate) const READ_ANEW: &str =
-    "The second reading of the files doesn't find what the first line says: a file was changed between the two, or can't be read twice. The first line is the answer: don't use these sentences.";
+    "When the files were read once more, the check didn't answer what it had answered before: a file was changed meanwhile, or can't be read twice. The first line is the answer: don't use these sentences.";

@@ -12,7 +12,7 @@ pub(crate) const PART_WITHOUT_CHANNELS: &str =
     "  It has no claimed channel that the original has, too, so none of its samples was compared.";
 
 pub(crate) const PART_EARLY: &str =
-    "  It begins before the part in front of it ends, so it isn't known which of the two has the samples there. Its samples weren't compared, nor those of the parts behind it, nor annotations: put the parts in the order of time, or make them so that none overlaps the next. If one of them was moved by another time than the others, or not at all, it may seem to overlap them, and its date may be the true one: compare where the parts start before anything goes out.";
+    "  It begins before the part in front of it ends, so it isn't known which of the two has the samples there. Its samples weren't compared, nor those of the parts behind it, nor annotations, and no names were looked for: put the parts in the order of time, or make them so that none overlaps the next. If one of them was moved by another time than the others, or not at all, it may seem to overlap them, and its date may be the true one: compare where the parts start before anything goes out.";
 
 pub(crate) const PART_NOT_COMPARED: &str = "  Its samples weren't compared.";
 
@@ -31,11 +31,12 @@ pub(crate) const NOTE_THEN: &str = "    Part {0} has 1 annotation that begins at
 pub(crate) const NOTES_THEN: &str = "    Part {0} has {1} annotations that begin at this time.";
 
 /// The number of the part.
-pub(crate) const NOTE_WITHIN: &str = "    Part {0} covers this time.";
+pub(crate) const NOTE_WITHIN: &str =
+    "    This time lies between the begin and the end of part {0}.";
 
 /// How many annotations.
 pub(crate) const ALL_IN_EACH: &str =
-    "Each part has {0} annotations, as many as the claim keeps in all: it looks as if each of them had all annotations. Each annotation belongs in one part alone.";
+    "Each part has {0} annotations, as many as the claim keeps in all: it looks as if each of them had all annotations. All parts together are to have each annotation as often as the claim keeps it.";
 
 pub(crate) const NOTES_ADVICE_OF_PARTS: &str =
     "Run edfclaim notes on each file to see all annotations. In a claim, remove and remove-prefix leave annotations out by their texts, and blank makes their texts X.";

@@ -24,4 +24,4 @@ pub(crate) const NOTHING_KEPT: &str =
     "The claim keeps no sample of the original: its intervals lie after the end of the recording, in a gap, or before its first data record. They count seconds from the original's start.";
 
 pub(crate) const KEPT_BETWEEN: &str =
-    "The claim keeps no sample of the original: an interval lies within a data record, and no sample of a claimed channel stands in it, for instance between two samples. An interval keeps what stands at its beginning, and not what stands at its end.";
+    "The claim keeps no sample of the original: an interval, or a part of it, lies in a data record, and no sample of a claimed channel stands there, for instance between two samples. An interval keeps what stands at its beginning, and not what stands at its end.";
