@@ -7,3 +7,4 @@ mod printed;
 mod same;
 
 pub use print::claim_to;
+pub use same::{are_same_intervals, are_same_labels, are_same_subfields, are_same_texts};

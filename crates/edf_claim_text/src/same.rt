@@ -8,7 +8,7 @@ use edf_fields::{SignalLabel, Which};
 use std::alloc::{AllocError, Global};
 
 /// Whether these are the same labels, in the same order.
-fn are_same_labels(labels: &[SignalLabel], others: &[SignalLabel]) -> bool
+pub fn are_same_labels(labels: &[SignalLabel], others: &[SignalLabel]) -> bool
     ensures { IsTrue result ↔ (labels.now ≡ others.now) }
 {
     if labels.len() != others.len() {
@@ -23,21 +23,21 @@ fn are_same_labels(labels: &[SignalLabel], others: &[SignalLabel]) -> bool
 }
 
 /// Whether these are the same texts, in the same order.
-fn are_same_texts(texts: &[Vec<u8>], others: &[Vec<u8>]) -> bool
+pub fn are_same_texts(texts: &[Vec<u8>], others: &[Vec<u8>]) -> bool
     ensures { IsTrue result ↔ (map (λ t. t.items) texts.now ≡ map (λ t. t.items) others.now) }
 {
     texts == others
 }
 
 /// Whether these are the same intervals, in the same order.
-fn are_same_intervals(intervals: &[Interval], others: &[Interval]) -> bool
+pub fn are_same_intervals(intervals: &[Interval], others: &[Interval]) -> bool
     ensures { IsTrue result ↔ (intervals.now ≡ others.now) }
 {
     intervals == others
 }
 
 /// Whether these are the same subfields, in the same order.
-fn are_same_subfields(whiches: &[Which], others: &[Which]) -> bool
+pub fn are_same_subfields(whiches: &[Which], others: &[Which]) -> bool
     ensures { IsTrue result ↔ (whiches.now ≡ others.now) }
 {
     if whiches.len() != others.len() {

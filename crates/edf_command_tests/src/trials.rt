@@ -1,7 +1,8 @@
 //! Tries: the check of two recordings that are opened anew, and the text of a claim with another shift, with other channels,
-//! and with another end of an interval.
+//! and with another end of an interval, which says in all else the same.
 
 use edf_claim::Claim;
+use edf_claim_text::{are_same_intervals, are_same_labels, are_same_subfields, are_same_texts};
 use edf_stop::RunStop;
 use edf_test_files::small_file;
 use edf_trial::{SliceRecordings, check_anew, is_better, with_channels, with_end, with_shift};
@@ -36,6 +37,29 @@ fn another_shift_makes_a_yes(rt: HostRuntime) -> Result<(), Fail> {
         _ => false,
     };
     assert!(rt; is_named);
+    Ok(())
+}
+
+/// A claim that says something by each of its keys.
+const WHOLE: &str =
+    "format = 2\nchannels = [\"Temp\"]\nanonymous = [\"name\"]\nshift = 60\nremove = [\"Apnea\"]\n\
+    remove-prefix = [\"Dr.\"]\nblank = [\"Haagse calls\"]\nkeep = [{ from = \"0\", to = \"1\" }]\n";
+
+#[test]
+fn a_shifted_claim_says_the_same_else(rt: HostRuntime) -> Result<(), Fail> {
+    let claim = Claim::read(rt.alloc(), WHOLE.as_bytes())?;
+    let other = match with_shift(rt.alloc(), WHOLE.as_bytes(), -60)? {
+        Some(text) => Claim::read(rt.alloc(), &text)?,
+        None => Claim::read(rt.alloc(), CLAIM.as_bytes())?,
+    };
+    assert!(rt; other.shift() == -60);
+    assert!(rt; are_same_labels(claim.channels(), other.channels()));
+    assert!(rt; are_same_intervals(claim.intervals(), other.intervals()));
+    assert!(rt; are_same_subfields(claim.anonymous(), other.anonymous()));
+    assert!(rt; are_same_texts(claim.removed(), other.removed()));
+    assert!(rt; are_same_texts(claim.removed_by_begin(), other.removed_by_begin()));
+    assert!(rt; are_same_texts(claim.blanked(), other.blanked()));
+    assert!(rt; !are_same_texts(claim.blanked(), other.removed()));
     Ok(())
 }
 

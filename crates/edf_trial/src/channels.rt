@@ -1,10 +1,11 @@
 //! A claim that names other channels.
 
 ghost use Rattle.std.specs.Prelude.{map, IfOk, IfSome, IsTrue};
-ghost use Rattle.edf_trial.specs.Changes.{IsClaimOfChannels};
+ghost use Rattle.edf_trial.specs.Changes.{IsRenamedTo, SaysRenamed};
 
+use crate::alike::{claim_in, is_renamed};
 use crate::changed::{put, table_of, text_of};
-use edf_claim::{Claim, ClaimStop, claim_key};
+use edf_claim::{Claim, claim_key};
 use std::alloc::{AllocError, Global};
 use toml::Value;
 
@@ -29,16 +30,21 @@ fn text_with(alloc: Global, claim_text: &[u8], list: Value) -> Result<Option<Vec
     text_of(alloc, &table)
 }
 
-/// Whether a text says a claim of channels with these labels, in this order.
+/// Whether a text says this claim, but that its channels are those with these labels, in this order.
 ///
 /// The error is want of memory.
-fn says_channels(alloc: Global, text: &[u8], labels: &[Vec<u8>]) -> Result<bool, AllocError>
-    ensures { IfOk result (λ says. IsTrue says → IsClaimOfChannels text.now (map (λ l. l.items) labels.now)) }
+fn says_channels(
+    alloc: Global,
+    claim: &Claim,
+    text: &[u8],
+    labels: &[Vec<u8>],
+) -> Result<bool, AllocError>
+    ensures { IfOk result (λ says. IsTrue says →
+        IsRenamedTo claim.now (map (λ l. l.items) labels.now) text.now) }
 {
-    match Claim::read(alloc, text) {
-        Ok(claim) => Ok(claim.has_channels(labels)),
-        Err(ClaimStop::OutOfMemory) => Err(AllocError),
-        Err(_) => Ok(false),
+    match claim_in(alloc, text)? {
+        Some(other) => Ok(is_renamed(claim, &other, labels)),
+        None => Ok(false),
     }
 }
 
@@ -52,15 +58,18 @@ pub fn with_channels(
     labels: &[Vec<u8>],
 ) -> Result<Option<Vec<u8>>, AllocError>
     ensures { IfOk result (λ text.
-        IfSome text (λ t. IsClaimOfChannels t.items (map (λ l. l.items) labels.now))) }
+        IfSome text (λ t. SaysRenamed claim_text.now (map (λ l. l.items) labels.now) t.items)) }
 {
+    let Some(claim) = claim_in(alloc, claim_text)? else {
+        return Ok(None);
+    };
     let Some(list) = list_of(alloc, labels)? else {
         return Ok(None);
     };
     let Some(text) = text_with(alloc, claim_text, list)? else {
         return Ok(None);
     };
-    if says_channels(alloc, &text, labels)? {
+    if says_channels(alloc, &claim, &text, labels)? {
         Ok(Some(text))
     } else {
         Ok(None)

@@ -1,10 +1,11 @@
 //! A claim that keeps what begins at the end of one of its intervals.
 
-ghost use Rattle.std.specs.Prelude.{IfOk, IfSome, IsTrue};
-ghost use Rattle.edf_trial.specs.Changes.{IsClaimThatKeeps};
+ghost use Rattle.std.specs.Prelude.{◌≡◌, IfOk, IfSome, IsTrue};
+ghost use Rattle.edf_trial.specs.Changes.{IsExtendedBy, picosecond as picosecond_at, SaysExtended};
 
+use crate::alike::{claim_in, is_extended};
 use crate::changed::{put, table_of, text_of};
-use edf_claim::{Claim, ClaimStop, claim_key};
+use edf_claim::{Claim, Interval, claim_key};
 use edf_fields::{SECOND_PS, span};
 use std::alloc::{AllocError, Global};
 use toml::value::Array;
@@ -57,16 +58,30 @@ fn text_with(alloc: Global, claim_text: &[u8], at_ps: i128) -> Result<Option<Vec
     }
 }
 
-/// Whether a text says a claim that keeps what stands at a time, in picoseconds after the second at which the original starts.
+/// The picosecond that begins at a time; none where it would end behind all times.
+fn picosecond(at_ps: i128) -> Option<Interval>
+    ensures { IfSome result (λ more. more ≡ picosecond_at at_ps) }
+{
+    let to_ps = at_ps.checked_add(1)?;
+    Some(Interval {
+        from_ps: at_ps,
+        to_ps,
+    })
+}
+
+/// Whether a text says this claim, but that what ends where an interval begins is longer by that, and so keeps what stands there.
 ///
 /// The error is want of memory.
-fn says_kept(alloc: Global, text: &[u8], at_ps: i128) -> Result<bool, AllocError>
-    ensures { IfOk result (λ says. IsTrue says → IsClaimThatKeeps text.now at_ps) }
+fn says_kept(alloc: Global, claim: &Claim, text: &[u8], more: Interval) -> Result<bool, AllocError>
+    ensures { IfOk result (λ says. IsTrue says → IsExtendedBy claim.now more text.now) }
 {
-    match Claim::read(alloc, text) {
-        Ok(claim) => Ok(claim.keeps_instant(at_ps, 1)),
-        Err(ClaimStop::OutOfMemory) => Err(AllocError),
-        Err(_) => Ok(false),
+    let Some(other) = claim_in(alloc, text)? else {
+        return Ok(false);
+    };
+    if is_extended(alloc, claim, &other, more)? {
+        Ok(other.keeps_instant(more.from_ps, 1))
+    } else {
+        Ok(false)
     }
 }
 
@@ -80,12 +95,15 @@ pub fn with_end(
     claim_text: &[u8],
     at_ps: i128,
 ) -> Result<Option<Vec<u8>>, AllocError>
-    ensures { IfOk result (λ text. IfSome text (λ t. IsClaimThatKeeps t.items at_ps)) }
+    ensures { IfOk result (λ text. IfSome text (λ t. SaysExtended claim_text.now at_ps t.items)) }
 {
+    let (Some(claim), Some(more)) = (claim_in(alloc, claim_text)?, picosecond(at_ps)) else {
+        return Ok(None);
+    };
     let Some(text) = text_with(alloc, claim_text, at_ps)? else {
         return Ok(None);
     };
-    if says_kept(alloc, &text, at_ps)? {
+    if says_kept(alloc, &claim, &text, more)? {
         Ok(Some(text))
     } else {
         Ok(None)

@@ -1,6 +1,7 @@
 //! Tries: a check that is run anew under a claim that was changed, so that a remedy is named only where it was tried.
 #![tactic(auto)]
 
+mod alike;
 mod anew;
 mod answers;
 mod better;

@@ -1,10 +1,11 @@
 //! A claim that moves what it keeps by another time.
 
 ghost use Rattle.std.specs.Prelude.{IfOk, IfSome, IsTrue};
-ghost use Rattle.edf_trial.specs.Changes.{IsClaimOfShift};
+ghost use Rattle.edf_trial.specs.Changes.{IsShiftedTo, SaysShifted};
 
+use crate::alike::{claim_in, keep_alike};
 use crate::changed::{put, table_of, text_of};
-use edf_claim::{Claim, ClaimStop, claim_key};
+use edf_claim::{Claim, claim_key};
 use std::alloc::{AllocError, Global};
 use toml::Value;
 
@@ -21,16 +22,15 @@ fn text_with(
     text_of(alloc, &table)
 }
 
-/// Whether a text says a claim that moves what it keeps by so many seconds.
+/// Whether a text says this claim, but that it moves what it keeps by so many seconds.
 ///
 /// The error is want of memory.
-fn says_shift(alloc: Global, text: &[u8], seconds: i64) -> Result<bool, AllocError>
-    ensures { IfOk result (λ says. IsTrue says → IsClaimOfShift text.now seconds) }
+fn says_shift(alloc: Global, claim: &Claim, text: &[u8], seconds: i64) -> Result<bool, AllocError>
+    ensures { IfOk result (λ says. IsTrue says → IsShiftedTo claim.now seconds text.now) }
 {
-    match Claim::read(alloc, text) {
-        Ok(claim) => Ok(claim.has_shift(seconds)),
-        Err(ClaimStop::OutOfMemory) => Err(AllocError),
-        Err(_) => Ok(false),
+    match claim_in(alloc, text)? {
+        Some(other) => Ok(other.has_shift(seconds) && keep_alike(claim, &other)),
+        None => Ok(false),
     }
 }
 
@@ -43,12 +43,15 @@ pub fn with_shift(
     claim_text: &[u8],
     seconds: i64,
 ) -> Result<Option<Vec<u8>>, AllocError>
-    ensures { IfOk result (λ text. IfSome text (λ t. IsClaimOfShift t.items seconds)) }
+    ensures { IfOk result (λ text. IfSome text (λ t. SaysShifted claim_text.now seconds t.items)) }
 {
+    let Some(claim) = claim_in(alloc, claim_text)? else {
+        return Ok(None);
+    };
     let Some(text) = text_with(alloc, claim_text, seconds)? else {
         return Ok(None);
     };
-    if says_shift(alloc, &text, seconds)? {
+    if says_shift(alloc, &claim, &text, seconds)? {
         Ok(Some(text))
     } else {
         Ok(None)
