@@ -83,16 +83,22 @@ fn may_have_all(part: &PartFindings, kept: &[Note]) -> bool {
     }
 }
 
+/// Whether two annotations are there, and are the same.
+fn are_same(first: Option<&Note>, second: Option<&Note>) -> bool {
+    match (first, second) {
+        (Some(note), Some(other)) => note == other,
+        _ => false,
+    }
+}
+
 /// Whether all annotations that are too many are those that are kept, in their order, each so many times.
 fn are_kept_again(notes: &Notes, extra: &[usize], times: usize) -> bool {
     for (i, place) in extra.iter().enumerate() {
-        let kept = match i.checked_div(times) {
-            Some(number) => notes.kept.get(number),
-            None => None,
+        let Some(number) = i.checked_div(times) else {
+            return false;
         };
-        match (kept, notes.exported.get(*place)) {
-            (Some(kept), Some(exported)) if kept == exported => {}
-            _ => return false,
+        if !are_same(notes.kept.get(number), notes.exported.get(*place)) {
+            return false;
         }
     }
     true
