@@ -359,7 +359,7 @@ def lines_of_each(original, parts, claim, shift):
     begins = [[onset + (part.shift - shift) * PS for onset, *_ in part.notes] for part in parts]
     missing, extra = notes_apart(original, with_all_notes(parts), claim, shift)
     if len(parts) > 1 and len(kept) > 1 and not missing and extra == collections.Counter(kept * (len(parts) - 1)):
-        ends = {min(kept)[0], max(kept)[0]}
+        ends = {min(onset for onset, *_ in kept), max(onset for onset, *_ in kept)}
         if all(len(found) == len(kept) and ends <= set(found) for found in begins):
             yield filled(SENTENCES["ALL_IN_EACH"], [str(len(kept))])
 
