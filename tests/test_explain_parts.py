@@ -501,7 +501,7 @@ class Checks(ExplainPartsCase):
         folder.mkdir(exist_ok=True)
         paths = [self.file("original.edf", bytes_of(NIGHT)), self.file("claim.toml", ALL_OF_IT), self.file("part.edf", bytes_of(FIRST))]
         given = self.run_program("explain-parts", *paths, folder)
-        said = sentences.filled(sentences.sentences()["CANNOT_READ"], [str(folder)])
+        said = sentences.filled(sentences.sentences()["IS_FOLDER"], [str(folder)])
         self.assertEqual((given.status, given.out, given.err.decode()), (2, b"", f"edfclaim: reading export failed\n{said}\n"))
 
     def test_too_many(self):

@@ -33,7 +33,7 @@ WORDS = [
 NO_ROW = {
     "FULL_STOP", "LISTED", "NOTE_TEXT", "SECONDS_UNIT", "THE_LINE", "LINE_CONTENT", "NEXT", "spelled.Sex",
     "NO_BYTES", "ONE_BYTE", "SOME_BYTES",
-    "OTHER_RANGE", "FieldCause.NotPrintable", "READ_ANEW", "CANNOT_OPEN", "CANNOT_READ",
+    "OTHER_RANGE", "FieldCause.NotPrintable", "READ_ANEW", "CANNOT_OPEN", "CANNOT_READ", "IS_FOLDER",
 }
 
 # Sentences whose rows stand in tests/explain/rows.py: words of each that a row there wants, and words that another doesn't.

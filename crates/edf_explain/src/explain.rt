@@ -1,8 +1,5 @@
 //! Sentences behind the line of a check, for whoever has to act on it.
 
-ghost use Rattle.std.specs.Prelude.{IsTrue};
-ghost use Rattle.edf_explain.specs.Appending.{Appended};
-
 use crate::differences::annotations::say_annotations;
 use crate::differences::clocks::Clocks;
 use crate::differences::compared::say_compared;
@@ -16,7 +13,7 @@ use crate::tried::other_end::say_other_end;
 use crate::tried::shifts::{TriedShift, TriedShifts};
 use crate::words::files::READ_ANEW;
 use edf_claim::Claim;
-use edf_fields::{Fault, Sink, put_all};
+use edf_fields::Fault;
 use edf_findings::{Checked, Findings, OnlyInOne, Wanted, findings_of};
 use edf_sentences::Text;
 use edf_stop::{RunStop, Side};
@@ -195,46 +192,29 @@ fn fault_in(verdict: &Verdict) -> Option<(Side, Fault)> {
     }
 }
 
-/// The sentences on two files and a claim.
-fn sentences<R: Recordings>(
+/// Sentences for whoever has to act on the line of a check: all differences, and not the first alone, what mostly makes them, and
+/// what to do; where there is none, what to read before the export goes out. A remedy is named only where the check was run with
+/// it, and then with what it answers.
+///
+/// The verdict is that of the check, and what was found is what it showed (`findings_of`). Both recordings are opened anew for
+/// each of at most three tries: of other shifts, of the channels that both files have, or of the end of an interval; and once
+/// more where all samples are as claimed with another shift. The error is want of memory, or a failure of one of them.
+pub fn explain<R: Recordings>(
     alloc: Global,
     asked: &Asked<'_, OneExport<'_, R>>,
     found: Option<Findings<'_>>,
     fronts: Fronts<'_>,
-) -> Result<Text, RunStop> {
+) -> Result<Vec<u8>, RunStop> {
     let mut text = Text::new(alloc);
     if let Some((side, fault)) = fault_in(asked.verdict) {
         say_fault(&mut text, side, &fault, fronts.of(side))?;
         if side == Side::Original {
             say_fault_of_export(&mut text, asked.tries.recordings, fronts.export)?;
         }
-        return Ok(text);
+        return Ok(text.into_bytes());
     }
     if let Some(seen) = found {
         say_seen(&mut text, asked, seen)?;
     }
-    Ok(text)
-}
-
-/// Writes sentences for whoever has to act on the line of a check: all differences, and not the first alone, what mostly
-/// makes them, and what to do; where there is none, what to read before the export goes out. A remedy is named only where the
-/// check was run with it, and then with what it answers.
-///
-/// The verdict is that of the check, and what was found is what it showed (`findings_of`). Both recordings are opened anew for
-/// each of at most three tries: of other shifts, of the channels that both files have, or of the end of an interval; and once
-/// more where all samples are as claimed with another shift. The sentences are made before the first of them is written, so that
-/// nothing is written where a file fails or memory runs out. What the sink held stays in front of them.
-pub fn explain_to<R: Recordings, K: Sink>(
-    alloc: Global,
-    asked: &Asked<'_, OneExport<'_, R>>,
-    found: Option<Findings<'_>>,
-    fronts: Fronts<'_>,
-    sink: &mut K,
-) -> Result<(), RunStop>
-    ensures appended { IsTrue (K.is_honest sink.old) → Appended (K.held sink.old) (K.held sink.new) }
-    ensures honesty { IsTrue (K.is_honest sink.old) → IsTrue (K.is_honest sink.new) }
-{
-    let text = sentences(alloc, asked, found, fronts)?;
-    put_all(sink, text.bytes())?;
-    Ok(())
+    Ok(text.into_bytes())
 }

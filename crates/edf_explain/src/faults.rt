@@ -1,18 +1,13 @@
 //! A file that can't be judged: its fault, and what to do.
 
-ghost use Rattle.std.specs.Prelude.{◌≡◌, IfOk, IsTrue};
-ghost use Rattle.edf_stream.specs.Faults.{file_fault};
-
-use crate::front_source::FrontSource;
 use crate::limits::{MOST_ANNOTATIONS, MOST_RECORD_BYTES};
 use crate::words::faults as words;
-use edf_fields::{Cause, Fault, FixedField, Place, Source};
-use edf_header::Stop;
-use edf_sentences::{Piece, Text, begins_as_bdf, begins_as_edf, looks_like_a_claim};
-use edf_stop::{CheckStop, PartSide, PartsRunStop, RunStop, Side};
-use edf_stream::conform;
+use edf_fields::{Cause, Fault, FixedField, Place};
+use edf_findings::{FrontSource, fault_of_export};
+use edf_sentences::{FRONT, Piece, Text, begins_as_bdf, begins_as_edf, looks_like_a_claim};
+use edf_stop::{RunStop, Side};
 use edf_trial::Recordings;
-use std::alloc::{AllocError, Global};
+use std::alloc::AllocError;
 
 /// Whether the front of a file is that of one of the older EDF.
 fn is_plain_edf(front: &[u8]) -> bool {
@@ -82,40 +77,6 @@ pub(crate) fn say_fault(
     text.say(words::remedy(side), &[])
 }
 
-/// The first fault of an export; none where it conforms.
-///
-/// The error is want of memory, or a failure of the source.
-fn fault_of_export<S: Source>(alloc: Global, source: &mut S) -> Result<Option<Fault>, CheckStop>
-    ensures { IfOk result (λ fault. IsTrue (S.is_honest source.old) →
-        file_fault (S.left source.old) ≡ fault) }
-{
-    match conform(alloc, source) {
-        Ok(_) => Ok(None),
-        Err(Stop::Fault(fault)) => Ok(Some(fault)),
-        Err(Stop::OutOfMemory) => Err(CheckStop::OutOfMemory),
-        Err(Stop::ReadFailed) => Err(CheckStop::ReadFailed(Side::Export)),
-    }
-}
-
-/// The first fault of one of several exports, of which this is the number; none where it conforms.
-///
-/// The error is want of memory, or a failure of the source.
-pub(crate) fn fault_of_part<S: Source>(
-    alloc: Global,
-    source: &mut S,
-    number: u16,
-) -> Result<Option<Fault>, PartsRunStop>
-    ensures { IfOk result (λ fault. IsTrue (S.is_honest source.old) →
-        file_fault (S.left source.old) ≡ fault) }
-{
-    match conform(alloc, source) {
-        Ok(_) => Ok(None),
-        Err(Stop::Fault(first)) => Ok(Some(first)),
-        Err(Stop::OutOfMemory) => Err(PartsRunStop::OutOfMemory),
-        Err(Stop::ReadFailed) => Err(PartsRunStop::ReadFailed(PartSide::Part(number))),
-    }
-}
-
 /// Says the first fault of the export, where it has one, behind that of the original: a check doesn't read the export on then, so
 /// it is opened anew. `seen` is what stood in front of it in the check; where something else does now, it can't be read once
 /// more, as a pipe, and nothing is said.
@@ -125,7 +86,7 @@ pub(crate) fn say_fault_of_export<R: Recordings>(
     seen: &[u8],
 ) -> Result<(), RunStop> {
     let alloc = text.alloc();
-    let mut source = FrontSource::new(alloc, recordings.open_export()?);
+    let mut source = FrontSource::new(alloc, recordings.open_export()?, FRONT);
     let found = fault_of_export(alloc, &mut source)?;
     if let Some(fault) = found
         && source.front().starts_with(seen)

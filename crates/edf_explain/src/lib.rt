@@ -4,7 +4,6 @@
 mod differences;
 mod explain;
 mod faults;
-mod front_source;
 mod heads;
 mod limits;
 mod opening;
@@ -12,7 +11,6 @@ mod parts;
 mod tried;
 mod words;
 
-pub use explain::{Fronts, explain_to};
-pub use front_source::FrontSource;
-pub use opening::{explain_opening, explain_reading};
-pub use parts::{PartsAsked, explain_parts_to, fault_in};
+pub use explain::{Fronts, explain};
+pub use opening::{explain_folder, explain_opening, explain_reading};
+pub use parts::{PartsAsked, explain_parts, fault_in};

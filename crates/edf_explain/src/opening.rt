@@ -22,6 +22,15 @@ pub fn explain_opening(
     Ok(text.into_bytes())
 }
 
+/// A sentence on a path that is one of a folder, where a file of several can't be read.
+///
+/// The error is want of memory.
+pub fn explain_folder(alloc: Global, path: &str) -> Result<Vec<u8>, AllocError> {
+    let mut text = Text::new(alloc);
+    text.say(words::IS_FOLDER, &[Piece::Word(path)])?;
+    Ok(text.into_bytes())
+}
+
 /// A sentence on a file of which a read failed.
 ///
 /// The error is want of memory.

@@ -1,8 +1,5 @@
 //! Sentences behind the line of a check of several exports, for whoever has to act on it.
 
-ghost use Rattle.std.specs.Prelude.{IsTrue};
-ghost use Rattle.edf_explain.specs.Appending.{Appended};
-
 use crate::differences::annotations::say_annotations;
 use crate::differences::clocks::Clocks;
 use crate::differences::compared::say_part_compared;
@@ -10,20 +7,20 @@ use crate::differences::headers::say_heads;
 use crate::differences::parts_then::say_if_each_has_all;
 use crate::differences::samples::say_samples;
 use crate::differences::starts::{PartStart, say_nothing_kept, say_shifts_of_parts, starts_of_all};
-use crate::faults::{fault_of_part, say_fault};
-use crate::front_source::FrontSource;
+use crate::faults::say_fault;
 use crate::heads::Heads;
 use crate::tried::other_channels::say_other_channels;
 use crate::tried::other_end::say_other_end;
 use crate::tried::shifts::{TriedShift, TriedShifts};
 use crate::words::files::READ_ANEW;
 use crate::words::parts as words;
-use edf_fields::{Fault, Sink, put_all};
+use edf_fields::Fault;
 use edf_findings::{
-    CheckedParts, Findings, OnlyInOne, PartFindings, Wanted, claim_of, findings_of_parts,
+    CheckedParts, Findings, FrontSource, OnlyInOne, PartFindings, Wanted, claim_of,
+    fault_of_export, findings_of_parts,
 };
-use edf_sentences::{Piece, Text};
-use edf_stop::{PartsRunStop, Side};
+use edf_sentences::{FRONT, Piece, Text};
+use edf_stop::{CheckStop, PartSide, PartsRunStop, Side};
 use edf_trial::{Asked, PartsRecordings, SeveralExports, with_shift};
 use edf_verdict::{Difference, Outcome, Verdict};
 use edf_warnings::{ReadTexts, asks_for_texts, say_behind_no, say_warnings};
@@ -54,6 +51,14 @@ fn say_part_name(text: &mut Text, number: u16) -> Result<(), AllocError> {
     text.say(words::PART, &[Piece::Number(i128::from(number))])
 }
 
+/// The stop of a reading of one of several exports, of which this is the number.
+fn stop_of_part(stop: CheckStop, number: u16) -> PartsRunStop {
+    match stop {
+        CheckStop::OutOfMemory => PartsRunStop::OutOfMemory,
+        CheckStop::ReadFailed(_) => PartsRunStop::ReadFailed(PartSide::Part(number)),
+    }
+}
+
 /// Says the first fault of each of the exports from a number on, which the check left aside: they are opened anew. Where something
 /// else stands in front of one than stood there before, it can't be read once more, as a pipe, and nothing is said of it.
 fn say_faults_from<R: PartsRecordings>(
@@ -65,8 +70,12 @@ fn say_faults_from<R: PartsRecordings>(
     let mut number: u16 = 0;
     for source in parts.asked.tries.recordings.open_exports(alloc)? {
         if number >= first {
-            let mut source = FrontSource::new(alloc, source);
-            if let Some(fault) = fault_of_part(alloc, &mut source, number)?
+            let mut source = FrontSource::new(alloc, source, FRONT);
+            let found = match fault_of_export(alloc, &mut source) {
+                Ok(found) => found,
+                Err(stop) => return Err(stop_of_part(stop, number)),
+            };
+            if let Some(fault) = found
                 && let Some(seen) = parts.fronts.get(usize::from(number))
                 && source.front().starts_with(seen)
             {
@@ -310,38 +319,24 @@ fn say_seen<R: PartsRecordings>(
     }
 }
 
-/// The sentences on an original, its exports and a claim: of each export all that differs, and of the annotations of all together.
-fn sentences_on_parts<R: PartsRecordings>(
+/// Sentences for whoever has to act on the line of a check of several exports: of each export all that differs, and of the
+/// annotations of all together.
+///
+/// The verdict is that of the check, and what was found is what it showed (`findings_of_parts`). All files are opened anew for
+/// each of at most three tries, once more where all samples are as claimed with another shift, and for the faults of exports that
+/// the check left aside. The error is want of memory, or a failure of one of them.
+pub fn explain_parts<R: PartsRecordings>(
     alloc: Global,
     parts: &PartsAsked<'_, R>,
     found: Option<Findings<'_>>,
-) -> Result<Text, PartsRunStop> {
+) -> Result<Vec<u8>, PartsRunStop> {
     let mut text = Text::new(alloc);
     if let Some((side, fault)) = fault_in(parts.asked.verdict) {
         say_faults(&mut text, parts, side, fault)?;
-        return Ok(text);
+        return Ok(text.into_bytes());
     }
     if let Some(seen) = found {
         say_seen(&mut text, parts, seen)?;
     }
-    Ok(text)
-}
-
-/// Writes sentences for whoever has to act on the line of a check of several exports.
-///
-/// The verdict is that of the check, and what was found is what it showed (`findings_of_parts`). All files are opened anew for
-/// each of at most three tries, once more where all samples are as claimed with another shift, and for the faults of exports that
-/// the check left aside. The sentences are made before the first of them is written. What the sink held stays in front of them.
-pub fn explain_parts_to<R: PartsRecordings, K: Sink>(
-    alloc: Global,
-    parts: &PartsAsked<'_, R>,
-    found: Option<Findings<'_>>,
-    sink: &mut K,
-) -> Result<(), PartsRunStop>
-    ensures appended { IsTrue (K.is_honest sink.old) → Appended (K.held sink.old) (K.held sink.new) }
-    ensures honesty { IsTrue (K.is_honest sink.old) → IsTrue (K.is_honest sink.new) }
-{
-    let text = sentences_on_parts(alloc, parts, found)?;
-    put_all(sink, text.bytes())?;
-    Ok(())
+    Ok(text.into_bytes())
 }

@@ -1,7 +1,7 @@
 -- What stands behind a check that explains itself.
 use Rattle.std.specs.Prelude.{ℕ, List}
 use Rattle.edf_check.specs.Runs.{IsPartsReport, IsReport}
-use Rattle.edf_explain.specs.Appending.{Appended}
+use Rattle.edf_explained.specs.Appending.{Appended}
 use Rattle.edf_verdict.specs.declared.outcome.Outcome.{Outcome}
 
 -- behind what was held stands the line of the verdict, with its outcome, as a run without sentences writes it; and some text behind it

@@ -5,10 +5,12 @@ ghost use Rattle.edf_explained.specs.Explained.{IsExplained};
 
 use crate::lent::Lent;
 use crate::question::Question;
+use crate::sentences::put_sentences;
 use edf_claim::Claim;
-use edf_explain::{FrontSource, Fronts, explain_to};
+use edf_explain::{Fronts, explain};
 use edf_fields::{Sink, Source, put_all};
-use edf_findings::{Checked, Wanted, findings_of};
+use edf_findings::{Checked, FrontSource, Wanted, findings_of};
+use edf_sentences::FRONT;
 use edf_stop::RunStop;
 use edf_trial::{Asked, OneExport, Recordings};
 use edf_verdict::Outcome;
@@ -40,8 +42,8 @@ pub fn run_explained<O: Source, E: Source, K: Sink, R: Recordings>(
         claim: &claim,
         hidden: asks_for_texts(&claim),
     };
-    let mut first = FrontSource::new(alloc, Lent::new(original));
-    let mut second = FrontSource::new(alloc, Lent::new(export));
+    let mut first = FrontSource::new(alloc, Lent::new(original), FRONT);
+    let mut second = FrontSource::new(alloc, Lent::new(export), FRONT);
     let Checked { verdict, found } = findings_of(alloc, &mut first, &mut second, wanted)?;
     let line = verdict.line(alloc)?;
     put_all(sink, &line)?;
@@ -54,6 +56,7 @@ pub fn run_explained<O: Source, E: Source, K: Sink, R: Recordings>(
         original: first.front(),
         export: second.front(),
     };
-    explain_to(alloc, &asked, found, fronts, sink)?;
+    let said = explain(alloc, &asked, found, fronts)?;
+    put_sentences(sink, &said)?;
     Ok(verdict.outcome())
 }

@@ -5,9 +5,10 @@ ghost use Rattle.std.specs.List.{AllByRecursion};
 ghost use Rattle.edf_explained.specs.Explained.{ArePartsExplained};
 
 use crate::question::Question;
-use edf_explain::{FrontSource, PartsAsked, explain_parts_to, fault_in};
+use crate::sentences::put_sentences;
+use edf_explain::{PartsAsked, explain_parts, fault_in};
 use edf_fields::{Sink, Source, put_all};
-use edf_findings::{CheckedParts, Wanted, claim_of, findings_of_parts};
+use edf_findings::{CheckedParts, FrontSource, Wanted, claim_of, findings_of_parts};
 use edf_stop::PartsRunStop;
 use edf_trial::{Asked, PartsRecordings, SeveralExports};
 use edf_verdict::{Outcome, Verdict};
@@ -78,6 +79,7 @@ pub fn run_explained_parts<O: Source + Drop, E: Source + Drop, K: Sink, R: Parts
         original_front: original.front(),
         fronts: &fronts,
     };
-    explain_parts_to(alloc, &asked, found, sink)?;
+    let said = explain_parts(alloc, &asked, found)?;
+    put_sentences(sink, &said)?;
     Ok(verdict.verdict.outcome())
 }

@@ -3,7 +3,9 @@
 #![tactic(auto)]
 
 mod clock;
+mod faults;
 mod findings;
+mod front_source;
 mod heads;
 pub mod laws;
 mod limits;
@@ -20,7 +22,9 @@ mod wanted;
 
 pub use clock::start_of;
 pub use edf_pace::OnlyInOne;
+pub use faults::fault_of_export;
 pub use findings::Findings;
+pub use front_source::FrontSource;
 pub use heads::cut_off::are_extremes_cut_off;
 pub use heads::exchanged::{Exchange, exchange_of, has_subfield, have_same_texts};
 pub use limits::MOST_SHIFT;

@@ -8,10 +8,11 @@ ghost use Rattle.edfclaim.specs.Opening.{ClaimTextStops, OpeningStops};
 
 use crate::signs::{Signs, Watched};
 use edf_claim::MOST_CLAIM_BYTES;
-use edf_explain::FrontSource;
 use edf_fields::{ReadSource, Source, fill};
+use edf_findings::FrontSource;
 use edf_receipt::DigestSource;
 use edf_refusal::{Refusal, Role};
+use edf_sentences::FRONT;
 use std::alloc::Global;
 use std::fs;
 use std::io::{BufReader, ErrorKind, Read};
@@ -155,7 +156,7 @@ pub fn fronted_recordings<'a, R: Files + Eprint + Clock + AllocGlobal>(
     let mut sources = Vec::with_capacity(alloc, paths.len())?;
     for path in paths {
         let source = watched_ahead(signs, path, role, READ_AHEAD_OF_SEVERAL)?;
-        sources.push(FrontSource::new(alloc, source))?;
+        sources.push(FrontSource::new(alloc, source, FRONT))?;
     }
     Ok(sources)
 }

@@ -2,7 +2,7 @@
 
 use crate::files::claim_text;
 use edf_claim_advice::explain_claim;
-use edf_explain::{explain_opening, explain_reading};
+use edf_explain::{explain_folder, explain_opening, explain_reading};
 use edf_jobs::Job;
 use edf_refusal::{Refusal, Role};
 use std::alloc::AllocError;
@@ -58,14 +58,14 @@ fn is_folder<R: Files>(rt: &R, path: &str) -> bool {
     }
 }
 
-/// A sentence on the first of several exports that is a folder; nothing where none is, since it isn't known then of which a read failed.
+/// A sentence on the first of several exports that is a folder; nothing where none is, since it isn't known of which a read failed.
 fn reading_hints_of_parts<R: Files + AllocGlobal>(
     rt: &R,
     exports: &[&str],
 ) -> Result<Vec<u8>, AllocError> {
     for path in exports {
         if is_folder(rt, path) {
-            return explain_reading(rt.alloc(), path);
+            return explain_folder(rt.alloc(), path);
         }
     }
     Ok(Vec::new(rt.alloc()))

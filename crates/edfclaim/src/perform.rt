@@ -14,15 +14,16 @@ use edf_check::{run, run_parts};
 use edf_claim_text::claim_to;
 use edf_command_line::VERSION;
 use edf_draft::{draft_parts_to, draft_to};
-use edf_explain::FrontSource;
 use edf_explained::{Question, run_explained, run_explained_parts};
 use edf_fields::{Sink, WriteSink};
+use edf_findings::FrontSource;
 use edf_jobs::Job;
 use edf_layout::layout_to;
 use edf_read::read_to;
 use edf_receipt::{DigestSource, Printed, receipt_parts_to, receipt_to};
 use edf_refusal::{Refusal, Role};
 use edf_report::{conform_to, notes_to, show_to};
+use edf_sentences::FRONT;
 use edf_vectors::vectors_to;
 use edf_verdict::Outcome;
 use std::io;
@@ -199,7 +200,7 @@ fn explain_parts<'a, R: Files + Eprint + Clock + AllocGlobal, K: Sink>(
     }
     let alloc = signs.rt().alloc();
     let text = claim_text(signs.rt(), claim)?;
-    let mut first = FrontSource::new(alloc, watched(signs, original, Role::Original)?);
+    let mut first = FrontSource::new(alloc, watched(signs, original, Role::Original)?, FRONT);
     let mut parts = fronted_recordings(signs, exports, Role::Export)?;
     let again = PartsAgain::new(signs, original, exports);
     let question = Question {

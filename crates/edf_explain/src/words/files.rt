@@ -1,11 +1,15 @@
 //! Files that can't be opened or read, or that stand in the places of others.
 
-// A file that can't be opened: its path, and why the system doesn't open it. And one that can't be read: its path.
+// A file that can't be opened: its path, and why the system doesn't open it. One that can't be read: its path. And of several exports,
+// one of which can't be read, a path that is one of a folder.
 
 pub(crate) const CANNOT_OPEN: &str = "{0}: {1}";
 
 pub(crate) const CANNOT_READ: &str =
     "{0}: the file was opened, and reading it failed. It is a folder, or the disk or the network has a fault: copy it to a local disk, and try again.";
+
+pub(crate) const IS_FOLDER: &str =
+    "{0}: this is a folder, and reading a folder fails. Type the path of a file.";
 
 // Files in the places of others.
 

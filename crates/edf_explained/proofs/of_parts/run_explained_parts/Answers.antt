@@ -14,5 +14,5 @@ returns-clause-report g c = λ original parts sink.
         text_is = c.in_ok-put_all.ensures.bytes sink ∙ ap (λ t. g.K.Sink.held c.args.sink.now ++ t) (c.deref.ensures.value ∙ c.in_ok-line.ensures ∙ ap (λ n. parts_verdict_line n c.in_ok-verdict.field-0.verdict) size);
         outcome_is = c.outcome.ensures;
       };
-      sentences = c.in_ok-explain_parts_to.ensures.appended (c.in_ok-put_all.ensures.honesty sink);
+      sentences = c.in_ok-put_sentences.ensures.appended (c.in_ok-put_all.ensures.honesty sink);
     }
