@@ -199,7 +199,7 @@ fn fault_in(verdict: &Verdict) -> Option<(Side, Fault)> {
 /// The verdict is that of the check, and what was found is what it showed (`findings_of`). Both recordings are opened anew for
 /// each of at most three tries: of other shifts, of the channels that both files have, or of the end of an interval; and once
 /// more where all samples are as claimed with another shift. The error is want of memory, or a failure of one of them.
-pub fn explain<R: Recordings>(
+pub fn explain_one<R: Recordings>(
     alloc: Global,
     asked: &Asked<'_, OneExport<'_, R>>,
     found: Option<Findings<'_>>,

@@ -11,6 +11,6 @@ mod parts;
 mod tried;
 mod words;
 
-pub use explain::{Fronts, explain};
+pub use explain::{Fronts, explain_one};
 pub use opening::{explain_folder, explain_opening, explain_reading};
 pub use parts::{PartsAsked, explain_parts, fault_in};

@@ -7,7 +7,7 @@ use crate::lent::Lent;
 use crate::question::Question;
 use crate::sentences::put_sentences;
 use edf_claim::Claim;
-use edf_explain::{Fronts, explain};
+use edf_explain::{Fronts, explain_one};
 use edf_fields::{Sink, Source, put_all};
 use edf_findings::{Checked, FrontSource, Wanted, findings_of};
 use edf_sentences::FRONT;
@@ -56,7 +56,7 @@ pub fn run_explained<O: Source, E: Source, K: Sink, R: Recordings>(
         original: first.front(),
         export: second.front(),
     };
-    let said = explain(alloc, &asked, found, fronts)?;
+    let said = explain_one(alloc, &asked, found, fronts)?;
     put_sentences(sink, &said)?;
     Ok(verdict.outcome())
 }
